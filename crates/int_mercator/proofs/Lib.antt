@@ -1,0 +1,4 @@
+pub mod Division
+pub mod Heights
+pub mod Knots
+pub mod Terms

@@ -1,0 +1,4 @@
+pub mod Again
+pub mod Items
+pub mod Messages
+pub mod Varints

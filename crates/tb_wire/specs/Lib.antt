@@ -1,0 +1,6 @@
+pub mod Again
+pub mod Field
+pub mod Items
+pub mod Message
+pub mod Varint
+pub mod Zigzag
