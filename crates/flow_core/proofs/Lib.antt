@@ -1,0 +1,10 @@
+pub mod BagLemmas
+pub mod KeptLemmas
+pub mod EventLemmas
+pub mod RoomLemmas
+pub mod SettledLemmas
+pub mod ProgressLemmas
+pub mod RunLemmas
+pub mod NextLemmas
+pub mod UnitLemmas
+pub mod WorkedRow
