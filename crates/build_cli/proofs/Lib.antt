@@ -1,0 +1,4 @@
+pub mod Fronts
+pub mod Short
+pub mod Told
+pub mod WorkedRows
