@@ -1,0 +1,7 @@
+pub mod Answers
+pub mod Blob
+pub mod Fields
+pub mod Frames
+pub mod Header
+pub mod Kinds
+pub mod Rows
