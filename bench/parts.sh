@@ -1,5 +1,5 @@
 #!/usr/bin/env bash
-# Times the parts that stand by themselves, as proved programs: tile ids, the projection and the lane machine.
+# Times the parts that stand by themselves, as proved programs: tile ids and the projection.
 # Each program of this folder is proved and built in a copy, outside the gate, and then timed. Usage: bash bench/parts.sh
 set -eu
 top=$(cd "$(dirname "$0")/.." && pwd)
@@ -10,11 +10,11 @@ cd "$copy"
 git init -q
 cp "$top/HANDLES" .
 mkdir crates
-for crate in tb_types int_mercator hilbert_ids flow_core; do
+for crate in tb_types int_mercator hilbert_ids; do
   mkdir "crates/$crate"
   (cd "$top/crates/$crate" && cp -r src specs proofs "$copy/crates/$crate/")
 done
-for name in ids places machine; do
+for name in ids places; do
   mkdir -p "crates/bench_$name/src"
   cp "$top/bench/$name.txt" "crates/bench_$name/src/main.rt"
 done
@@ -22,12 +22,10 @@ cat > crates.txt <<'LIST'
 tb_types:
 int_mercator: tb_types
 hilbert_ids: tb_types
-flow_core: tb_types
 bench_ids: tb_types hilbert_ids
 bench_places: tb_types int_mercator
-bench_machine: tb_types flow_core
 LIST
-for name in ids places machine; do
+for name in ids places; do
   if (cd "crates/bench_$name" && rt run >run.log 2>&1); then
     echo "$name:"
     (time "crates/bench_$name/out/bench_$name") 2>&1 | grep -v '^$'
