@@ -1,0 +1,97 @@
+-- The steps of the loops over differences and over members.
+use Rattle.std.proofs.Common.{◌≡◌, ℕ, ℤ, min, map, take, ◌+◌, ◌<◌, ◌≤◌, Result, Ok, Err, List, [], ◌∷◌, ◌++◌, length, drop, get_or, refl, ap, sym, ◌∙◌, arith}
+use Rattle.std.proofs.Math.Numerals.{add-one}
+use Rattle.std.proofs.Math.Seq.{take-suc}
+use Rattle.std.proofs.lemmas.List.{drop_more, append-nil, length-drop, map-append}
+use Rattle.tb_types.specs.declared.damage.Why.{Why}
+use Rattle.osm_elements.specs.Reasons.{◌>>=◌}
+use Rattle.osm_elements.specs.Fields.{with_found}
+use Rattle.tb_types.specs.declared.attribute.Tags.{Tags}
+use Rattle.tb_types.specs.declared.element.Kind.{Kind}
+use Rattle.osm_elements.specs.declared.element.Member.{Member}
+use Rattle.osm_elements.specs.declared.grid.Grid.{Grid}
+use Rattle.osm_elements.specs.Grid.{next_sum, sums_from, place}
+use Rattle.osm_elements.specs.Tags.{Tag}
+use Rattle.osm_elements.specs.Dense.{no_tags_for, nodes_along}
+use Rattle.osm_elements.specs.Elements.{node, kind_of, member_of, members_of, osm_id}
+use Rattle.osm_elements.proofs.Fronts.{with_found-item}
+
+-- a sum joins those before it, or is out of range
+pub sum_read : (ds : List ℕ) (i : ℕ) (sum next : ℤ) (front : List ℤ) (total : Result (List ℤ) Why) → i < length ds → next_sum sum (get_or ds i 0) ≡ Ok next
+    → with_found front (sums_from sum (drop i ds)) ≡ total → with_found (front ++ next ∷ []) (sums_from next (drop (i + 1) ds)) ≡ total
+sum_read ds i sum next front total h step told =
+    sym (with_found-item front next (sums_from next (drop (i + 1) ds)))
+    ∙ (sym (ap (λ r. with_found front (r >>= λ n. sums_from n (drop (i + 1) ds) >>= λ later. Ok (n ∷ later))) step)
+    ∙ (sym (ap (λ xs. with_found front (sums_from sum xs)) (drop_more ds i 0 h)) ∙ told))
+
+pub sum_stops : (ds : List ℕ) (i : ℕ) (sum : ℤ) (front : List ℤ) (why : Why) (total : Result (List ℤ) Why) → i < length ds → next_sum sum (get_or ds i 0) ≡ Err why
+    → with_found front (sums_from sum (drop i ds)) ≡ total → total ≡ Err why
+sum_stops ds i sum front why total h step told =
+    sym told ∙ (ap (λ xs. with_found front (sums_from sum xs)) (drop_more ds i 0 h) ∙ ap (λ r. with_found front (r >>= λ n. sums_from n (drop (i + 1) ds) >>= λ later. Ok (n ∷ later))) step)
+
+pub member_kind : (id : ℤ) (k : ℕ) (r : Result Kind Why) → kind_of k ≡ r → member_of id k ≡ r >>= λ kind. Ok (record { kind = kind; id = osm_id id })
+member_kind id k r h = ap (λ r. r >>= λ kind. Ok (record { kind = kind; id = osm_id id })) h
+
+members_next : (ids : List ℤ) (kinds : List ℕ) (i : ℕ) (d : ℤ) → i < length ids → i < length kinds
+    → members_of (drop i ids) (drop i kinds) ≡ member_of (get_or ids i d) (get_or kinds i 0) >>= λ member. members_of (drop (i + 1) ids) (drop (i + 1) kinds) >>= λ later. Ok (member ∷ later)
+members_next ids kinds i d h k =
+    ap (λ xs. members_of xs (drop i kinds)) (drop_more ids i d h) ∙ ap (λ ys. members_of (get_or ids i d ∷ drop (i + 1) ids) ys) (drop_more kinds i 0 k)
+
+pub member_read : (ids : List ℤ) (kinds : List ℕ) (i : ℕ) (d : ℤ) (front : List Member) (m : Member) (total : Result (List Member) Why) → i < length ids → i < length kinds
+    → member_of (get_or ids i d) (get_or kinds i 0) ≡ Ok m
+    → with_found front (members_of (drop i ids) (drop i kinds)) ≡ total → with_found (front ++ m ∷ []) (members_of (drop (i + 1) ids) (drop (i + 1) kinds)) ≡ total
+member_read ids kinds i d front m total h k step told =
+    sym (with_found-item front m (members_of (drop (i + 1) ids) (drop (i + 1) kinds)))
+    ∙ (sym (ap (λ r. with_found front (r >>= λ m. members_of (drop (i + 1) ids) (drop (i + 1) kinds) >>= λ later. Ok (m ∷ later))) step)
+    ∙ (sym (ap (with_found front) (members_next ids kinds i d h k)) ∙ told))
+
+pub member_stops : (ids : List ℤ) (kinds : List ℕ) (i : ℕ) (d : ℤ) (front : List Member) (why : Why) (total : Result (List Member) Why) → i < length ids → i < length kinds
+    → member_of (get_or ids i d) (get_or kinds i 0) ≡ Err why
+    → with_found front (members_of (drop i ids) (drop i kinds)) ≡ total → total ≡ Err why
+member_stops ids kinds i d front why total h k step told =
+    sym told ∙ (ap (with_found front) (members_next ids kinds i d h k) ∙ ap (λ r. with_found front (r >>= λ m. members_of (drop (i + 1) ids) (drop (i + 1) kinds) >>= λ later. Ok (m ∷ later))) step)
+
+no_members : (ids : List ℤ) (kinds : List ℕ) → min (length ids) (length kinds) ≡ 0 → members_of ids kinds ≡ Ok []
+no_members [] kinds h = refl
+no_members (id ∷ ids) [] h = refl
+no_members (id ∷ ids) (k ∷ kinds) h = absurd (omega (arith, h))
+
+pub all_members : (ids : List ℤ) (kinds : List ℕ) (i : ℕ) (front : List Member) (total : Result (List Member) Why) → min (length ids) (length kinds) ≤ i
+    → with_found front (members_of (drop i ids) (drop i kinds)) ≡ total → total ≡ Ok front
+all_members ids kinds i front total h told =
+    let none : min (length (drop i ids)) (length (drop i kinds)) ≡ 0 = omega (arith, length-drop i ids, length-drop i kinds) in
+    sym told ∙ (ap (with_found front) (no_members (drop i ids) (drop i kinds) none) ∙ ap Ok (append-nil front))
+
+-- nodes without tags
+pub none_added : (ids : List ℕ) (i : ℕ) (lists : List Tags) (t : Tags) → i < length ids → t.pairs ≡ [] → map (λ t. t.pairs) lists ≡ no_tags_for (take i ids) → map (λ t. t.pairs) (lists ++ t ∷ []) ≡ no_tags_for (take (i + 1) ids)
+none_added ids i lists t h empty told =
+    map-append (λ t. t.pairs) lists (t ∷ [])
+    ∙ (ap (λ front. front ++ (t.pairs ∷ [])) told
+    ∙ (ap (λ (p : List Tag). no_tags_for (take i ids) ++ (p ∷ [])) empty
+    ∙ rw (add-one, take-suc ids i 0 h) (sym (map-append (λ _. []) (take i ids) (get_or ids i 0 ∷ [])))))
+
+-- the next dense node
+pub nodes_next : (grid : Grid) (ids lats lons : List ℤ) (t : List Tag) (tags : List (List Tag)) (i : ℕ) (d e f : ℤ) → i < length ids → i < length lats → i < length lons
+    → nodes_along grid (drop i ids) (drop i lats) (drop i lons) (t ∷ tags)
+    ≡ node (osm_id (get_or ids i d)) (place grid (get_or lats i e) (get_or lons i f)) t ∷ nodes_along grid (drop (i + 1) ids) (drop (i + 1) lats) (drop (i + 1) lons) tags
+nodes_next grid ids lats lons t tags i d e f h k l =
+    ap (λ xs. nodes_along grid xs (drop i lats) (drop i lons) (t ∷ tags)) (drop_more ids i d h)
+    ∙ (ap (λ xs. nodes_along grid (get_or ids i d ∷ drop (i + 1) ids) xs (drop i lons) (t ∷ tags)) (drop_more lats i e k)
+    ∙ ap (λ xs. nodes_along grid (get_or ids i d ∷ drop (i + 1) ids) (get_or lats i e ∷ drop (i + 1) lats) xs (t ∷ tags)) (drop_more lons i f l))
+
+pub no_tags_left : (grid : Grid) (ids lats lons : List ℤ) → nodes_along grid ids lats lons [] ≡ []
+no_tags_left grid [] lats lons = refl
+no_tags_left grid (id ∷ ids) [] lons = refl
+no_tags_left grid (id ∷ ids) (lat ∷ lats) [] = refl
+no_tags_left grid (id ∷ ids) (lat ∷ lats) (lon ∷ lons) = refl
+
+no_places : (grid : Grid) (ids lats lons : List ℤ) (tags : List (List Tag)) → min (min (length ids) (length lats)) (length lons) ≡ 0 → nodes_along grid ids lats lons tags ≡ []
+no_places grid [] lats lons tags h = refl
+no_places grid (id ∷ ids) [] lons tags h = refl
+no_places grid (id ∷ ids) (lat ∷ lats) [] tags h = refl
+no_places grid (id ∷ ids) (lat ∷ lats) (lon ∷ lons) tags h = absurd (omega (arith, h))
+
+pub no_places_left : (grid : Grid) (ids lats lons : List ℤ) (tags : List (List Tag)) (i : ℕ) → min (min (length ids) (length lats)) (length lons) ≤ i
+    → nodes_along grid (drop i ids) (drop i lats) (drop i lons) tags ≡ []
+no_places_left grid ids lats lons tags i h =
+    no_places grid (drop i ids) (drop i lats) (drop i lons) tags (omega (arith, length-drop i ids, length-drop i lats, length-drop i lons))

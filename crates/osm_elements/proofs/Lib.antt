@@ -1,0 +1,5 @@
+pub mod DenseSteps
+pub mod Differences
+pub mod Fronts
+pub mod Joins
+pub mod WorkedBlocks

@@ -1,0 +1,14 @@
+pub mod Block
+pub mod Dense
+pub mod Elements
+pub mod Fields
+pub mod Gathering
+pub mod Grid
+pub mod Header
+pub mod Kinds
+pub mod Lists
+pub mod Reasons
+pub mod Rows
+pub mod SeenParts
+pub mod Signed
+pub mod Tags

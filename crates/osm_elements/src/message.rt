@@ -1,0 +1,172 @@
+ghost use Rattle.std.specs.Prelude.{◌≡◌, map};
+ghost use Rattle.tb_wire.specs.Field.{entry_of, text};
+ghost use Rattle.osm_elements.specs.Reasons.{Gives};
+ghost use Rattle.osm_elements.specs.Fields.{fields_of, some_numbers, some_fields, numbers, bodies, merged, last_number, with_found, last_read, if_numbered, one_number, one_body};
+
+use crate::fault::BlockErr;
+use std::alloc::Global;
+use tb_types::Why;
+use tb_wire::{Field, FieldValue, read_field, read_varint};
+
+/// What is no message, no packed list or no field of its stated type.
+const NO_MESSAGE: BlockErr = BlockErr::Bad(Why::Wire);
+
+/// The fields of a message.
+#[tactic(auto, using(crate::proofs::Fronts::with_found_nil))]
+pub fn fields<'a>(alloc: Global, bytes: &'a [u8]) -> Result<Vec<Field<'a>>, BlockErr>
+    ensures { Gives (λ v. map entry_of v.items) result (fields_of bytes.now) }
+{
+    let mut fields = Vec::new(alloc);
+    put_fields(&mut fields, bytes)?;
+    Ok(fields)
+}
+
+// Adds the fields of a message.
+fn put_fields<'a>(out: &mut Vec<Field<'a>>, bytes: &'a [u8]) -> Result<(), BlockErr>
+    ensures { Gives (λ _. map entry_of out.new.items) result (with_found (map entry_of out.old.items) (fields_of bytes.now)) }
+{
+    let mut at = 0;
+    while at < bytes.len() {
+        match read_field(bytes, at) {
+            Ok(Some(field)) => {
+                at = field.next;
+                out.push(field)?;
+            }
+            Ok(None) => break,
+            Err(_) => return Err(NO_MESSAGE),
+        }
+    }
+    Ok(())
+}
+
+/// The last varint of a number, if there is one.
+pub fn last_number(number: u32, fields: &[Field<'_>]) -> Result<Option<u64>, BlockErr>
+    ensures { Gives (λ n. n) result (last_number number (map entry_of fields.now)) }
+{
+    let mut last = None;
+    for field in fields {
+        last = later_number(last, number, field)?;
+    }
+    Ok(last)
+}
+
+// The varint of a field of this number, or else the one before it.
+fn later_number(
+    before: Option<u64>,
+    number: u32,
+    field: &Field<'_>,
+) -> Result<Option<u64>, BlockErr>
+    ensures { Gives (λ n. n) result (last_read before (if_numbered one_number number (entry_of field.now))) }
+{
+    if field.number != number {
+        return Ok(before);
+    }
+    match field.value {
+        FieldValue::Varint(n) => Ok(Some(n)),
+        _ => Err(NO_MESSAGE),
+    }
+}
+
+/// All varints of a number, packed and unpacked.
+pub fn numbers(alloc: Global, number: u32, fields: &[Field<'_>]) -> Result<Vec<u64>, BlockErr>
+    ensures { Gives (λ v. v.items) result (numbers number (map entry_of fields.now)) }
+{
+    let mut numbers = Vec::new(alloc);
+    for field in fields {
+        put_numbers(&mut numbers, number, field)?;
+    }
+    Ok(numbers)
+}
+
+// Adds the varints of a field of this number.
+fn put_numbers(out: &mut Vec<u64>, number: u32, field: &Field<'_>) -> Result<(), BlockErr>
+    ensures { Gives (λ _. out.new.items) result (with_found out.old.items (if_numbered some_numbers number (entry_of field.now))) }
+{
+    if field.number != number {
+        return Ok(());
+    }
+    match field.value {
+        FieldValue::Varint(n) => {
+            out.push(n)?;
+            Ok(())
+        }
+        FieldValue::Bytes(bytes) => put_packed(out, bytes),
+        _ => Err(NO_MESSAGE),
+    }
+}
+
+// Adds the varints of a packed list.
+fn put_packed(out: &mut Vec<u64>, bytes: &[u8]) -> Result<(), BlockErr>
+    ensures { Gives (λ _. out.new.items) result (with_found out.old.items (some_numbers (text bytes.now))) }
+{
+    let mut at = 0;
+    while at < bytes.len() {
+        match read_varint(bytes, at) {
+            Ok((number, next)) => {
+                at = next;
+                out.push(number)?;
+            }
+            Err(_) => return Err(NO_MESSAGE),
+        }
+    }
+    Ok(())
+}
+
+/// The bytes of each field of a number.
+pub fn bodies<'a>(
+    alloc: Global,
+    number: u32,
+    fields: &[Field<'a>],
+) -> Result<Vec<&'a [u8]>, BlockErr>
+    ensures { Gives (λ v. map (λ b. b.now) v.items) result (bodies number (map entry_of fields.now)) }
+{
+    let mut bodies = Vec::new(alloc);
+    for field in fields {
+        put_body(&mut bodies, number, field)?;
+    }
+    Ok(bodies)
+}
+
+// Adds the bytes of a field of this number.
+fn put_body<'a>(out: &mut Vec<&'a [u8]>, number: u32, field: &Field<'a>) -> Result<(), BlockErr>
+    ensures { Gives (λ _. map (λ b. b.now) out.new.items) result (with_found (map (λ b. b.now) out.old.items) (if_numbered one_body number (entry_of field.now))) }
+{
+    if field.number != number {
+        return Ok(());
+    }
+    match field.value {
+        FieldValue::Bytes(bytes) => {
+            out.push(bytes)?;
+            Ok(())
+        }
+        _ => Err(NO_MESSAGE),
+    }
+}
+
+/// The fields of all messages of a number.
+pub fn merged<'a>(
+    alloc: Global,
+    number: u32,
+    fields: &[Field<'a>],
+) -> Result<Vec<Field<'a>>, BlockErr>
+    ensures { Gives (λ v. map entry_of v.items) result (merged number (map entry_of fields.now)) }
+{
+    let mut merged = Vec::new(alloc);
+    for field in fields {
+        put_message(&mut merged, number, field)?;
+    }
+    Ok(merged)
+}
+
+// Adds the fields of the message that a field of this number has.
+fn put_message<'a>(out: &mut Vec<Field<'a>>, number: u32, field: &Field<'a>) -> Result<(), BlockErr>
+    ensures { Gives (λ _. map entry_of out.new.items) result (with_found (map entry_of out.old.items) (if_numbered some_fields number (entry_of field.now))) }
+{
+    if field.number != number {
+        return Ok(());
+    }
+    match field.value {
+        FieldValue::Bytes(bytes) => put_fields(out, bytes),
+        _ => Err(NO_MESSAGE),
+    }
+}

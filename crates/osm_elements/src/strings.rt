@@ -1,0 +1,30 @@
+ghost use Rattle.std.specs.Prelude.{◌≡◌, map};
+ghost use Rattle.tb_wire.specs.Field.{entry_of};
+ghost use Rattle.osm_elements.specs.Reasons.{Gives};
+ghost use Rattle.osm_elements.specs.Tags.{strings_of, string_at};
+
+use crate::fault::BlockErr;
+use crate::message::{bodies, merged};
+use crate::numbers::{BLOCK_TABLE, TABLE_STRING};
+use crate::signed::low_32;
+use std::alloc::Global;
+use tb_types::Why;
+use tb_wire::Field;
+
+/// The strings of a block, from its fields.
+pub fn strings_of<'a>(alloc: Global, fields: &[Field<'a>]) -> Result<Vec<&'a [u8]>, BlockErr>
+    ensures { Gives (λ v. map (λ b. b.now) v.items) result (strings_of (map entry_of fields.now)) }
+{
+    let table = merged(alloc, BLOCK_TABLE, fields)?;
+    bodies(alloc, TABLE_STRING, &table)
+}
+
+/// The string of an index, of which the low 32 bits count.
+pub fn string_at<'a>(strings: &[&'a [u8]], index: u64) -> Result<&'a [u8], BlockErr>
+    ensures { Gives (λ b. b.now) result (string_at (map (λ b. b.now) strings.now) index) }
+{
+    match strings.get(low_32(index) as usize) {
+        Some(string) => Ok(*string),
+        None => Err(BlockErr::Bad(Why::Index)),
+    }
+}
