@@ -1,19 +1,13 @@
 -- The steps of the loops over differences and over members.
-use Rattle.std.proofs.Common.{◌≡◌, ℕ, ℤ, min, map, take, ◌+◌, ◌<◌, ◌≤◌, Result, Ok, Err, List, [], ◌∷◌, ◌++◌, length, drop, get_or, refl, ap, sym, ◌∙◌, arith}
-use Rattle.std.proofs.Math.Numerals.{add-one}
-use Rattle.std.proofs.Math.Seq.{take-suc}
-use Rattle.std.proofs.lemmas.List.{drop_more, append-nil, length-drop, map-append}
+use Rattle.std.proofs.Common.{◌≡◌, ℕ, ℤ, min, ◌+◌, ◌<◌, ◌≤◌, Result, Ok, Err, List, [], ◌∷◌, ◌++◌, length, drop, get_or, refl, ap, sym, ◌∙◌, arith}
+use Rattle.std.proofs.lemmas.List.{drop_more, append-nil, length-drop}
 use Rattle.tb_types.specs.declared.damage.Why.{Why}
 use Rattle.osm_elements.specs.Reasons.{◌>>=◌}
 use Rattle.osm_elements.specs.Fields.{with_found}
-use Rattle.tb_types.specs.declared.attribute.Tags.{Tags}
 use Rattle.tb_types.specs.declared.element.Kind.{Kind}
 use Rattle.osm_elements.specs.declared.element.Member.{Member}
-use Rattle.osm_elements.specs.declared.grid.Grid.{Grid}
-use Rattle.osm_elements.specs.Grid.{next_sum, sums_from, place}
-use Rattle.osm_elements.specs.Tags.{Tag}
-use Rattle.osm_elements.specs.Dense.{no_tags_for, nodes_along}
-use Rattle.osm_elements.specs.Elements.{node, kind_of, member_of, members_of, osm_id}
+use Rattle.osm_elements.specs.Grid.{next_sum, sums_from}
+use Rattle.osm_elements.specs.Elements.{kind_of, member_of, members_of, osm_id}
 use Rattle.osm_elements.proofs.Fronts.{with_found-item}
 
 -- a sum joins those before it, or is out of range
@@ -61,37 +55,3 @@ pub all_members : (ids : List ℤ) (kinds : List ℕ) (i : ℕ) (front : List Me
 all_members ids kinds i front total h told =
     let none : min (length (drop i ids)) (length (drop i kinds)) ≡ 0 = omega (arith, length-drop i ids, length-drop i kinds) in
     sym told ∙ (ap (with_found front) (no_members (drop i ids) (drop i kinds) none) ∙ ap Ok (append-nil front))
-
--- nodes without tags
-pub none_added : (ids : List ℕ) (i : ℕ) (lists : List Tags) (t : Tags) → i < length ids → t.pairs ≡ [] → map (λ t. t.pairs) lists ≡ no_tags_for (take i ids) → map (λ t. t.pairs) (lists ++ t ∷ []) ≡ no_tags_for (take (i + 1) ids)
-none_added ids i lists t h empty told =
-    map-append (λ t. t.pairs) lists (t ∷ [])
-    ∙ (ap (λ front. front ++ (t.pairs ∷ [])) told
-    ∙ (ap (λ (p : List Tag). no_tags_for (take i ids) ++ (p ∷ [])) empty
-    ∙ rw (add-one, take-suc ids i 0 h) (sym (map-append (λ _. []) (take i ids) (get_or ids i 0 ∷ [])))))
-
--- the next dense node
-pub nodes_next : (grid : Grid) (ids lats lons : List ℤ) (t : List Tag) (tags : List (List Tag)) (i : ℕ) (d e f : ℤ) → i < length ids → i < length lats → i < length lons
-    → nodes_along grid (drop i ids) (drop i lats) (drop i lons) (t ∷ tags)
-    ≡ node (osm_id (get_or ids i d)) (place grid (get_or lats i e) (get_or lons i f)) t ∷ nodes_along grid (drop (i + 1) ids) (drop (i + 1) lats) (drop (i + 1) lons) tags
-nodes_next grid ids lats lons t tags i d e f h k l =
-    ap (λ xs. nodes_along grid xs (drop i lats) (drop i lons) (t ∷ tags)) (drop_more ids i d h)
-    ∙ (ap (λ xs. nodes_along grid (get_or ids i d ∷ drop (i + 1) ids) xs (drop i lons) (t ∷ tags)) (drop_more lats i e k)
-    ∙ ap (λ xs. nodes_along grid (get_or ids i d ∷ drop (i + 1) ids) (get_or lats i e ∷ drop (i + 1) lats) xs (t ∷ tags)) (drop_more lons i f l))
-
-pub no_tags_left : (grid : Grid) (ids lats lons : List ℤ) → nodes_along grid ids lats lons [] ≡ []
-no_tags_left grid [] lats lons = refl
-no_tags_left grid (id ∷ ids) [] lons = refl
-no_tags_left grid (id ∷ ids) (lat ∷ lats) [] = refl
-no_tags_left grid (id ∷ ids) (lat ∷ lats) (lon ∷ lons) = refl
-
-no_places : (grid : Grid) (ids lats lons : List ℤ) (tags : List (List Tag)) → min (min (length ids) (length lats)) (length lons) ≡ 0 → nodes_along grid ids lats lons tags ≡ []
-no_places grid [] lats lons tags h = refl
-no_places grid (id ∷ ids) [] lons tags h = refl
-no_places grid (id ∷ ids) (lat ∷ lats) [] tags h = refl
-no_places grid (id ∷ ids) (lat ∷ lats) (lon ∷ lons) tags h = absurd (omega (arith, h))
-
-pub no_places_left : (grid : Grid) (ids lats lons : List ℤ) (tags : List (List Tag)) (i : ℕ) → min (min (length ids) (length lats)) (length lons) ≤ i
-    → nodes_along grid (drop i ids) (drop i lats) (drop i lons) tags ≡ []
-no_places_left grid ids lats lons tags i h =
-    no_places grid (drop i ids) (drop i lats) (drop i lons) tags (omega (arith, length-drop i ids, length-drop i lats, length-drop i lons))

@@ -1,5 +1,5 @@
 -- Joining what was found: in any order of brackets, with nothing, and with what is no message.
-use Rattle.std.proofs.Common.{◌≡◌, ℕ, ℤ, suc, ◌+◌, ◌<◌, ◌≤◌, Bool, true, false, nat_lt, Option, None, Some, Result, Ok, Err, List, [], ◌∷◌, ◌++◌, length, map, drop, get_or, refl, ap, sym, subst, ◌∙◌, arith, append_assoc, length-append}
+use Rattle.std.proofs.Common.{◌≡◌, ℕ, suc, ◌+◌, ◌<◌, ◌≤◌, Bool, true, false, nat_lt, None, Some, Result, Ok, Err, List, [], ◌∷◌, ◌++◌, length, map, drop, get_or, refl, ap, sym, subst, ◌∙◌, arith, append_assoc, length-append}
 use Rattle.std.proofs.lemmas.List.{append-nil, drop_more, at_drop_all}
 use Rattle.std.specs.Borrow.{Bor}
 use Rattle.std.proofs.lemmas.Bool.{ltb-true, ltb-false, lt-ltb, le-ltb}
@@ -12,16 +12,12 @@ use Rattle.osm_elements.specs.declared.gathered.Gathered.{Gathered}
 use Rattle.tb_wire.specs.Field.{Entry}
 use Rattle.osm_elements.specs.Reasons.{◌>>=◌, rank, first, IsStop}
 use Rattle.osm_elements.specs.Fields.{fields_of, bodies}
-use Rattle.tb_types.specs.declared.element.OsmId.{OsmId}
-use Rattle.tb_types.specs.declared.location.LatLon.{LatLon}
 use Rattle.osm_elements.specs.declared.grid.Grid.{Grid}
-use Rattle.osm_elements.specs.Grid.{place, grid_of}
-use Rattle.osm_elements.specs.Tags.{Tag, strings_of}
-use Rattle.osm_elements.specs.Dense.{nodes_along}
-use Rattle.osm_elements.specs.Elements.{Element, node, osm_id}
-use Rattle.osm_elements.proofs.Differences.{nodes_next}
+use Rattle.osm_elements.specs.Grid.{grid_of}
+use Rattle.osm_elements.specs.Tags.{strings_of}
+use Rattle.osm_elements.specs.Elements.{Element}
 use Rattle.osm_elements.specs.Block.{Found, joined, every, groups_in, unit_checked, elements_of, numbered, as_node, as_way, as_relation}
-use Rattle.osm_elements.specs.Gathering.{Holds, Adds, Ended, Ends, Grows}
+use Rattle.osm_elements.specs.Gathering.{Holds, Adds, After, Ended, Ends, Grows}
 
 first-assoc : (u v w : Why) → first (first u v) w ≡ first u (first v w)
 first-assoc u v w = go (nat_lt (rank v) (rank u)) (nat_lt (rank w) (rank v)) refl refl
@@ -159,31 +155,6 @@ module _ (read : List ℕ → Found) (bodies : List (Bor (List ℕ))) (start : G
   bodies_end i now all h going =
       going_end start now all (subst (λ left. Going start now left all) (at_drop_all (λ xs. every read (map (λ b. b.now) xs)) bodies i h) going)
 
--- the next dense node, from what was read of its lists
-pub dense_read : (start now next : Gathered) (grid : Grid) (ids lats lons : List ℤ) (left : List (List Tag)) (t : List Tag) (tags : List (List Tag)) (i : ℕ) (id lat lon : ℤ) (its_id : OsmId) (at : Option LatLon) (all : Found)
-    → i < length ids → i < length lats → i < length lons → id ≡ get_or ids i id → lat ≡ get_or lats i lat → lon ≡ get_or lons i lon
-    → its_id ≡ osm_id id → at ≡ place grid lat lon → left ≡ t ∷ tags
-    → Going start now (Ok (nodes_along grid (drop i ids) (drop i lats) (drop i lons) left)) all → Grows now next (Ok (node its_id at t ∷ []))
-    → Going start next (Ok (nodes_along grid (drop (i + 1) ids) (drop (i + 1) lats) (drop (i + 1) lons) tags)) all
-dense_read start now next grid ids lats lons left t tags i id lat lon its_id at all h k l e f g same_id same_at first_left going grows =
-    let rest = nodes_along grid (drop (i + 1) ids) (drop (i + 1) lats) (drop (i + 1) lons) tags in
-    let step : nodes_along grid (drop i ids) (drop i lats) (drop i lons) left ≡ node its_id at t ∷ rest =
-    ap (λ ts. nodes_along grid (drop i ids) (drop i lats) (drop i lons) ts) first_left
-    ∙ (nodes_next grid ids lats lons t tags i id lat lon h k l
-    ∙ (ap (λ x. node (osm_id x) (place grid (get_or lats i lat) (get_or lons i lon)) t ∷ rest) (sym e)
-    ∙ (ap (λ x. node (osm_id id) (place grid x (get_or lons i lon)) t ∷ rest) (sym f)
-    ∙ (ap (λ x. node (osm_id id) (place grid lat x) t ∷ rest) (sym g)
-    ∙ (ap (λ x. node x (place grid lat lon) t ∷ rest) (sym same_id)
-    ∙ ap (λ x. node its_id x t ∷ rest) (sym same_at)))))) in
-    going_step start now next (Ok (node its_id at t ∷ [])) (Ok rest) all (subst (λ x. Going start now (Ok x) all) step going) grows
-
-pub dense_end : (start now : Gathered) (left : List Element) (all : Found) → left ≡ [] → Going start now (Ok left) all → Grows start now all
-dense_end start now left all none going = going_end start now all (subst (λ x. Going start now (Ok x) all) none going)
-
-pub nothing_left : {A : Type 0} (xs ys : List A) → xs ≡ ys → ys ≡ drop 1 xs → xs ≡ []
-nothing_left [] ys h k = refl
-nothing_left (x ∷ xs) ys h k = absurd (omega (arith, ap length (h ∙ k)))
-
 -- the elements of a block, step by step
 pub elements_from : (raw : List ℕ) (fields : List Entry) (strings : List (List ℕ)) (grid : Grid) (groups : List (List ℕ)) → fields_of raw ≡ Ok fields → strings_of fields ≡ Ok strings → grid_of fields ≡ Ok grid
     → bodies 2 fields ≡ Ok groups → elements_of raw ≡ joined (joined (Ok []) (groups_in strings grid groups)) (unit_checked grid)
@@ -202,3 +173,13 @@ ended_is_stop faults.Memory found h = tt
 pub ended_joined : (e : BlockErr) (a b : Found) → Ended e a → Ended e (joined a b)
 ended_joined (faults.Bad why) a b h = (h.0, ap (λ x. joined x b) h.1 ∙ wire-joined b)
 ended_joined faults.Memory a b h = tt
+
+-- nothing is added before what is added then
+pub nothing_first : {X : Type 0} (old mid new : Gathered) (r : Result X BlockErr) (more : Found) → Grows old mid (Ok []) → Adds mid new r more → Adds old new r more
+nothing_first old mid new r more grows adds so_far h = subst (λ x. After new r (joined x more)) (joined-none so_far) (adds (joined so_far (Ok [])) (grows so_far h))
+
+pub going_after : (start mid : Gathered) (all : Found) → Grows start mid (Ok []) → Going start mid all all
+going_after start mid all grows so_far h = (joined so_far (Ok []), (grows so_far h, ap (λ x. joined x all) (joined-none so_far)))
+
+pub nothing_ends : (start : Gathered) (e : BlockErr) (all : Found) → Ends start e (Ok []) → Ends start e all
+nothing_ends start e all ends so_far h = ended e so_far (Ok []) all (joined so_far all) (ap (joined so_far) (none-joined all)) (ends so_far h)

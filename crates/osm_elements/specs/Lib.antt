@@ -9,6 +9,7 @@ pub mod Kinds
 pub mod Lists
 pub mod Reasons
 pub mod Rows
-pub mod SeenParts
+pub mod Runs
 pub mod Signed
 pub mod Tags
+pub mod Walks

@@ -1,7 +1,55 @@
--- The lists of dense nodes as the code has them.
-use Rattle.std.specs.Prelude.{ℤ, List, map}
+-- The lists of dense nodes as the code has them, with the pairs of the tags in place of the tags.
+use Rattle.std.specs.Prelude.{ℕ, ℤ, ◌==◌, ◌&&◌, if◌then◌else◌, Option, None, Some, Result, Ok, Err, List, [], ◌∷◌, length, pos, get_or}
+use Rattle.tb_types.specs.declared.damage.Why.{Why}
+use Rattle.tb_types.specs.declared.damage.Why.TheVariants as reasons
+use Rattle.tb_wire.specs.Field.{Entry}
+use Rattle.osm_elements.specs.Reasons.{◌>>=◌}
+use Rattle.osm_elements.specs.Fields.{numbers}
 use Rattle.osm_elements.specs.Tags.{Tag}
+use Rattle.osm_elements.specs.Grid.{sums, place}
+use Rattle.osm_elements.specs.Dense.{dense_tags}
+use Rattle.osm_elements.specs.Elements.{Element, node, osm_id}
+use Rattle.osm_elements.specs.Runs.{checked, first_run}
+use Rattle.osm_elements.specs.declared.grid.Grid.{Grid}
 use Rattle.osm_elements.specs.declared.dense.Dense.{Dense}
 
-abbrev pub seen_lists : Dense → List ℤ × List ℤ × List ℤ × List (List Tag)
-seen_lists d = (d.ids.items, d.lats.items, d.lons.items, map (λ t. t.pairs) d.tags.items)
+-- ids, latitudes, longitudes, and the pairs of the tags
+abbrev pub DenseLists : Type 0
+DenseLists = List ℤ × List ℤ × List ℤ × List ℕ
+
+abbrev pub lists_of : List (List ℕ) → List ℕ → List ℕ → List ℕ → List ℕ → Result DenseLists Why
+lists_of strings ids lats lons pairs =
+    if (length ids == length lats) && (length ids == length lons) then
+    (checked (dense_tags strings ids pairs) >>= λ _. sums ids >>= λ ids. sums lats >>= λ lats. sums lons >>= λ lons. Ok (ids, lats, lons, pairs))
+    else Err reasons.Uneven
+
+-- the lists of a message with these fields, if its tags and its sums can be read
+abbrev pub lists_in : List (List ℕ) → List Entry → Result DenseLists Why
+lists_in strings fields =
+    numbers 1 fields >>= λ ids. numbers 8 fields >>= λ lats. numbers 9 fields >>= λ lons. numbers 10 fields >>= λ pairs. lists_of strings ids lats lons pairs
+
+-- nodes without tags, as far as all lists go
+abbrev pub bare_nodes : Grid → List ℤ → List ℤ → List ℤ → List Element
+bare_nodes grid (id ∷ ids) (lat ∷ lats) (lon ∷ lons) = node (osm_id id) (place grid lat lon) [] ∷ bare_nodes grid ids lats lons
+bare_nodes grid _ _ _ = []
+
+-- a node with the tags of the first run, and then those behind it
+abbrev pub with_node : (List Tag → Element) → (List ℕ → Result (List Element) Why) → Option (List Tag × List ℕ) → Result (List Element) Why
+with_node first others None = Ok []
+with_node first others (Some found) = others found.1 >>= λ later. Ok (first found.0 ∷ later)
+
+-- nodes with the tags of these runs, as far as all lists go
+abbrev pub tagged_nodes : List (List ℕ) → Grid → List ℤ → List ℤ → List ℤ → List ℕ → Result (List Element) Why
+tagged_nodes strings grid (id ∷ ids) (lat ∷ lats) (lon ∷ lons) pairs =
+    first_run strings [] pairs >>= with_node (node (osm_id id) (place grid lat lon)) (tagged_nodes strings grid ids lats lons)
+tagged_nodes strings grid _ _ _ pairs = Ok []
+
+abbrev pub nodes_of : List (List ℕ) → Grid → DenseLists → Result (List Element) Why
+nodes_of strings grid l = if length l.3 == 0 then Ok (bare_nodes grid l.0 l.1 l.2) else tagged_nodes strings grid l.0 l.1 l.2 l.3
+
+abbrev pub seen_lists : Dense → DenseLists
+seen_lists d = (d.ids.items, d.lats.items, d.lons.items, d.pairs.items)
+
+-- the node of a place in the lists
+abbrev pub place_node : Grid → Dense → ℕ → List Tag → Element
+place_node grid d i tags = node (osm_id (get_or d.ids.items i (pos 0))) (place grid (get_or d.lats.items i (pos 0)) (get_or d.lons.items i (pos 0))) tags

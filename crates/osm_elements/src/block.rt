@@ -1,19 +1,16 @@
 ghost use Rattle.std.specs.Prelude.{◌≡◌, map};
-ghost use Rattle.tb_wire.specs.Field.{entry_of};
 ghost use Rattle.osm_elements.specs.Reasons.{Gives};
-ghost use Rattle.osm_elements.specs.Block.{parts_of, elements_in, group_of, groups_in, block_of};
+ghost use Rattle.osm_elements.specs.Block.{group_of, groups_in, block_of};
 ghost use Rattle.osm_elements.specs.Gathering.{Adds};
-ghost use Rattle.osm_elements.specs.SeenParts.{seen_parts};
 
 use crate::element::Block;
 use crate::fault::BlockErr;
 use crate::gathered::Gathered;
 use crate::grid::{Grid, grid_of};
-use crate::message::{bodies, fields, merged};
-use crate::numbers::{BLOCK_GROUP, GROUP_DENSE, GROUP_NODE, GROUP_RELATION, GROUP_WAY};
+use crate::message::{bodies, fields};
+use crate::numbers::BLOCK_GROUP;
 use crate::strings::strings_of;
 use std::alloc::Global;
-use tb_wire::Field;
 
 /// The elements of a raw block (osmformat.proto, PrimitiveBlock), in the order of its groups, and in a group nodes, dense
 /// nodes, ways and relations. `Bad` exactly where the block is outside the format, with the first of these that holds
@@ -51,60 +48,18 @@ fn add_groups(
 }
 
 // Adds the elements of a group.
-#[tactic(auto, unfolding(crate::specs::Block::group_of))]
 fn add_group(
     alloc: Global,
     gathered: &mut Gathered,
     strings: &[&[u8]],
     grid: Grid,
-    body: &[u8],
+    group: &[u8],
 ) -> Result<(), BlockErr>
-    ensures { Adds gathered.old gathered.new result (group_of (map (λ b. b.now) strings.now) grid body.now) }
+    ensures { Adds gathered.old gathered.new result (group_of (map (λ b. b.now) strings.now) grid group.now) }
 {
-    match parts_of(alloc, body) {
-        Ok(parts) => add_parts(alloc, gathered, strings, grid, &parts),
-        Err(BlockErr::Bad(why)) => gathered.refuse(why),
-        Err(BlockErr::Memory) => Err(BlockErr::Memory),
-    }
-}
-
-/// The parts of a group: the bytes of its elements, and the fields of all its messages of dense nodes.
-#[derive(Drop)]
-pub struct Parts<'a> {
-    pub nodes: Vec<&'a [u8]>,
-    pub dense: Vec<Field<'a>>,
-    pub ways: Vec<&'a [u8]>,
-    pub relations: Vec<&'a [u8]>,
-}
-
-fn parts_of<'a>(alloc: Global, body: &'a [u8]) -> Result<Parts<'a>, BlockErr>
-    ensures { Gives seen_parts result (parts_of body.now) }
-{
-    let fields = fields(alloc, body)?;
-    let nodes = bodies(alloc, GROUP_NODE, &fields)?;
-    let dense = merged(alloc, GROUP_DENSE, &fields)?;
-    let ways = bodies(alloc, GROUP_WAY, &fields)?;
-    let relations = bodies(alloc, GROUP_RELATION, &fields)?;
-    Ok(Parts {
-        nodes,
-        dense,
-        ways,
-        relations,
-    })
-}
-
-fn add_parts(
-    alloc: Global,
-    gathered: &mut Gathered,
-    strings: &[&[u8]],
-    grid: Grid,
-    parts: &Parts<'_>,
-) -> Result<(), BlockErr>
-    ensures { Adds gathered.old gathered.new result (elements_in (map (λ b. b.now) strings.now) grid (seen_parts parts.now)) }
-{
-    gathered.add_nodes(alloc, strings, grid, &parts.nodes)?;
-    gathered.add_dense(alloc, strings, grid, &parts.dense)?;
-    gathered.add_ways(alloc, strings, &parts.ways)?;
-    gathered.add_relations(alloc, strings, &parts.relations)?;
+    gathered.add_nodes(alloc, strings, grid, group)?;
+    gathered.add_dense(alloc, strings, grid, group)?;
+    gathered.add_ways(alloc, strings, group)?;
+    gathered.add_relations(alloc, strings, group)?;
     Ok(())
 }

@@ -1,11 +1,12 @@
-ghost use Rattle.std.specs.Prelude.{◌≡◌, ◌+◌, ◌<◌, ◌^◌, Ok, Err, List, [], ◌∷◌, map, MatchResult};
+ghost use Rattle.std.specs.Prelude.{◌≡◌, ◌+◌, ◌<◌, ◌^◌, Ok, Err, List, [], ◌∷◌, length, map, MatchResult};
 ghost use Rattle.tb_wire.specs.Field.{entry_of};
 ghost use Rattle.osm_elements.specs.declared.fault.BlockErr.TheVariants as faults;
 ghost use Rattle.osm_elements.specs.Reasons.{Gives};
 ghost use Rattle.osm_elements.specs.Elements.{node, way, relation, node_of, way_of, relation_of};
-ghost use Rattle.osm_elements.specs.Dense.{dense_of, nodes_along};
-ghost use Rattle.osm_elements.specs.Lists.{seen_lists};
-ghost use Rattle.osm_elements.specs.Block.{Found, one, joined, nodes_in, ways_in, relations_in, block_if, unit_checked};
+ghost use Rattle.osm_elements.specs.Dense.{dense_of};
+ghost use Rattle.osm_elements.specs.Lists.{seen_lists, nodes_of, bare_nodes, tagged_nodes, place_node};
+ghost use Rattle.osm_elements.specs.Block.{Found, one, joined, block_if, unit_checked};
+ghost use Rattle.osm_elements.specs.Walks.{each_from, dense_in};
 ghost use Rattle.osm_elements.specs.Gathering.{Holds, Adds};
 
 use crate::dense::{Dense, dense_lists};
@@ -13,7 +14,11 @@ use crate::element::{Block, Member, NodeEl, RelEl, WayEl};
 use crate::fault::{BlockErr, first};
 use crate::grid::Grid;
 use crate::node::node_of;
+use crate::numbers::{GROUP_DENSE, GROUP_NODE, GROUP_RELATION, GROUP_WAY};
 use crate::relation::relation_of;
+use crate::runs::first_run;
+use crate::tags::no_tags;
+use crate::walk::{body_count, merged_in, next_body};
 use crate::way::way_of;
 use std::alloc::Global;
 use tb_types::{LatLon, OsmId, Seq, Tags, Why};
@@ -82,18 +87,21 @@ impl Gathered {
         }
     }
 
-    /// Adds the nodes of these messages.
+    /// Adds the nodes of a group.
     pub fn add_nodes(
         &mut self,
         alloc: Global,
         strings: &[&[u8]],
         grid: Grid,
-        bodies: &[&[u8]],
+        group: &[u8],
     ) -> Result<(), BlockErr>
-        ensures { Adds self.old self.new result (nodes_in (map (λ b. b.now) strings.now) grid (map (λ b. b.now) bodies.now)) }
+        ensures { Adds self.old self.new result (each_from (λ body. one (node_of (map (λ b. b.now) strings.now) grid body)) 1 group.now 0) }
     {
-        for body in bodies {
-            self.add_node(alloc, strings, grid, *body)?;
+        self.reserve_nodes(body_count(GROUP_NODE, group))?;
+        let mut at = 0;
+        while let Some((body, next)) = next_body(GROUP_NODE, group, at)? {
+            self.add_node(alloc, strings, grid, body)?;
+            at = next;
         }
         Ok(())
     }
@@ -138,9 +146,23 @@ impl Gathered {
         }
     }
 
-    /// Adds the dense nodes of a message with these fields.
-    #[tactic(auto, unfolding(crate::specs::Dense::dense_of))]
+    /// Adds the dense nodes of a group.
     pub fn add_dense(
+        &mut self,
+        alloc: Global,
+        strings: &[&[u8]],
+        grid: Grid,
+        group: &[u8],
+    ) -> Result<(), BlockErr>
+        ensures { Adds self.old self.new result (dense_in (map (λ b. b.now) strings.now) grid group.now) }
+    {
+        let fields = merged_in(alloc, GROUP_DENSE, group)?;
+        self.add_dense_fields(alloc, strings, grid, &fields)
+    }
+
+    // Adds the dense nodes of a message with these fields.
+    #[tactic(auto, using(crate::proofs::DenseNodes::dense_of_checked))]
+    fn add_dense_fields(
         &mut self,
         alloc: Global,
         strings: &[&[u8]],
@@ -150,40 +172,100 @@ impl Gathered {
         ensures { Adds self.old self.new result (dense_of (map (λ b. b.now) strings.now) grid (map entry_of fields.now)) }
     {
         match dense_lists(alloc, strings, fields) {
-            Ok(lists) => self.push_dense(grid, lists),
+            Ok(lists) => self.push_dense(alloc, strings, grid, &lists),
             Err(BlockErr::Bad(why)) => self.refuse(why),
             Err(BlockErr::Memory) => Err(BlockErr::Memory),
         }
     }
 
-    fn push_dense(&mut self, grid: Grid, lists: Dense) -> Result<(), BlockErr>
-        ensures { Adds self.old self.new result (Ok (nodes_along grid lists.ids.items lists.lats.items lists.lons.items (map (λ t. t.pairs) lists.tags.items))) }
+    fn push_dense(
+        &mut self,
+        alloc: Global,
+        strings: &[&[u8]],
+        grid: Grid,
+        lists: &Dense,
+    ) -> Result<(), BlockErr>
+        ensures { Adds self.old self.new result (nodes_of (map (λ b. b.now) strings.now) grid (seen_lists lists.now)) }
     {
-        let count = lists.ids.len().min(lists.lats.len()).min(lists.lons.len());
-        let mut tags_left = lists.tags;
-        for i in 0..count {
-            match tags_left.pop_front() {
-                Some(tags) => {
-                    let at = grid.place(lists.lats[i], lists.lons[i]);
-                    self.push_node(OsmId(lists.ids[i]), at, tags)?;
+        self.reserve_nodes(lists.ids.len())?;
+        if lists.pairs.len() == 0 {
+            self.push_bare(alloc, grid, lists)
+        } else {
+            self.push_tagged(alloc, strings, grid, lists)
+        }
+    }
+
+    // Takes room for so many nodes more.
+    fn reserve_nodes(&mut self, count: usize) -> Result<(), BlockErr>
+        ensures { Adds self.old self.new result (Ok []) }
+    {
+        self.nodes.reserve(count)?;
+        Ok(())
+    }
+
+    fn push_bare(&mut self, alloc: Global, grid: Grid, lists: &Dense) -> Result<(), BlockErr>
+        ensures { Adds self.old self.new result (Ok (bare_nodes grid lists.now.ids.items lists.now.lats.items lists.now.lons.items)) }
+    {
+        for i in 0..lists.places() {
+            self.push_place(grid, lists, i, no_tags(alloc))?;
+        }
+        Ok(())
+    }
+
+    fn push_tagged(
+        &mut self,
+        alloc: Global,
+        strings: &[&[u8]],
+        grid: Grid,
+        lists: &Dense,
+    ) -> Result<(), BlockErr>
+        ensures { Adds self.old self.new result (tagged_nodes (map (λ b. b.now) strings.now) grid lists.now.ids.items lists.now.lats.items lists.now.lons.items lists.now.pairs.items) }
+    {
+        let mut pairs = lists.pairs.as_slice();
+        for i in 0..lists.places() {
+            match first_run(alloc, strings, pairs) {
+                Ok(Some((tags, behind))) => {
+                    self.push_place(grid, lists, i, tags)?;
+                    pairs = behind;
                 }
-                None => break,
+                Ok(None) => break,
+                Err(BlockErr::Bad(why)) => return self.refuse(why),
+                Err(BlockErr::Memory) => return Err(BlockErr::Memory),
             }
         }
         Ok(())
     }
 
-    /// Adds the ways of these messages.
+    // Adds the dense node of a place.
+    fn push_place(
+        &mut self,
+        grid: Grid,
+        lists: &Dense,
+        i: usize,
+        tags: Tags,
+    ) -> Result<(), BlockErr>
+        requires ids { i < length lists.now.ids.items }
+        requires lats { i < length lists.now.lats.items }
+        requires lons { i < length lists.now.lons.items }
+        ensures { Adds self.old self.new result (Ok (place_node grid lists.now i tags.pairs ∷ [])) }
+    {
+        let at = grid.place(lists.lats[i], lists.lons[i]);
+        self.push_node(OsmId(lists.ids[i]), at, tags)
+    }
+
+    /// Adds the ways of a group.
     pub fn add_ways(
         &mut self,
         alloc: Global,
         strings: &[&[u8]],
-        bodies: &[&[u8]],
+        group: &[u8],
     ) -> Result<(), BlockErr>
-        ensures { Adds self.old self.new result (ways_in (map (λ b. b.now) strings.now) (map (λ b. b.now) bodies.now)) }
+        ensures { Adds self.old self.new result (each_from (λ body. one (way_of (map (λ b. b.now) strings.now) body)) 3 group.now 0) }
     {
-        for body in bodies {
-            self.add_way(alloc, strings, *body)?;
+        let mut at = 0;
+        while let Some((body, next)) = next_body(GROUP_WAY, group, at)? {
+            self.add_way(alloc, strings, body)?;
+            at = next;
         }
         Ok(())
     }
@@ -212,17 +294,19 @@ impl Gathered {
         Ok(())
     }
 
-    /// Adds the relations of these messages.
+    /// Adds the relations of a group.
     pub fn add_relations(
         &mut self,
         alloc: Global,
         strings: &[&[u8]],
-        bodies: &[&[u8]],
+        group: &[u8],
     ) -> Result<(), BlockErr>
-        ensures { Adds self.old self.new result (relations_in (map (λ b. b.now) strings.now) (map (λ b. b.now) bodies.now)) }
+        ensures { Adds self.old self.new result (each_from (λ body. one (relation_of (map (λ b. b.now) strings.now) body)) 4 group.now 0) }
     {
-        for body in bodies {
-            self.add_relation(alloc, strings, *body)?;
+        let mut at = 0;
+        while let Some((body, next)) = next_body(GROUP_RELATION, group, at)? {
+            self.add_relation(alloc, strings, body)?;
+            at = next;
         }
         Ok(())
     }

@@ -9,7 +9,7 @@ use tb_types::Why;
 use tb_wire::{Field, FieldValue, read_field, read_varint};
 
 /// What is no message, no packed list or no field of its stated type.
-const NO_MESSAGE: BlockErr = BlockErr::Bad(Why::Wire);
+pub const NO_MESSAGE: BlockErr = BlockErr::Bad(Why::Wire);
 
 /// The fields of a message.
 #[tactic(auto, using(crate::proofs::Fronts::with_found_nil))]
@@ -21,10 +21,11 @@ pub fn fields<'a>(alloc: Global, bytes: &'a [u8]) -> Result<Vec<Field<'a>>, Bloc
     Ok(fields)
 }
 
-// Adds the fields of a message.
-fn put_fields<'a>(out: &mut Vec<Field<'a>>, bytes: &'a [u8]) -> Result<(), BlockErr>
+/// Adds the fields of a message.
+pub fn put_fields<'a>(out: &mut Vec<Field<'a>>, bytes: &'a [u8]) -> Result<(), BlockErr>
     ensures { Gives (λ _. map entry_of out.new.items) result (with_found (map entry_of out.old.items) (fields_of bytes.now)) }
 {
+    out.reserve(field_count(bytes))?;
     let mut at = 0;
     while at < bytes.len() {
         match read_field(bytes, at) {
@@ -37,6 +38,17 @@ fn put_fields<'a>(out: &mut Vec<Field<'a>>, bytes: &'a [u8]) -> Result<(), Block
         }
     }
     Ok(())
+}
+
+// How many fields a message has, as far as it can be read. It is asked for the room alone.
+fn field_count(bytes: &[u8]) -> usize {
+    let mut count: usize = 0;
+    let mut at = 0;
+    while let Ok(Some(field)) = read_field(bytes, at) {
+        count = count.saturating_add(1);
+        at = field.next;
+    }
+    count
 }
 
 /// The last varint of a number, if there is one.
@@ -99,6 +111,7 @@ fn put_numbers(out: &mut Vec<u64>, number: u32, field: &Field<'_>) -> Result<(),
 fn put_packed(out: &mut Vec<u64>, bytes: &[u8]) -> Result<(), BlockErr>
     ensures { Gives (λ _. out.new.items) result (with_found out.old.items (some_numbers (text bytes.now))) }
 {
+    out.reserve(varint_count(bytes))?;
     let mut at = 0;
     while at < bytes.len() {
         match read_varint(bytes, at) {
@@ -112,6 +125,11 @@ fn put_packed(out: &mut Vec<u64>, bytes: &[u8]) -> Result<(), BlockErr>
     Ok(())
 }
 
+// How many varints a packed list has: each ends with a byte below 128.
+fn varint_count(bytes: &[u8]) -> usize {
+    bytes.iter().filter(|byte| **byte < 128).count()
+}
+
 /// The bytes of each field of a number.
 pub fn bodies<'a>(
     alloc: Global,
@@ -120,7 +138,8 @@ pub fn bodies<'a>(
 ) -> Result<Vec<&'a [u8]>, BlockErr>
     ensures { Gives (λ v. map (λ b. b.now) v.items) result (bodies number (map entry_of fields.now)) }
 {
-    let mut bodies = Vec::new(alloc);
+    let count = fields.iter().filter(|field| field.number == number).count();
+    let mut bodies = Vec::with_capacity(alloc, count)?;
     for field in fields {
         put_body(&mut bodies, number, field)?;
     }

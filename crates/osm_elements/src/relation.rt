@@ -11,7 +11,7 @@ use crate::numbers::{
     RELATION_KINDS,
 };
 use crate::signed::{low_32, signed_64};
-use crate::sums::sums;
+use crate::sums::sums_of;
 use crate::tags::tags_of;
 use std::alloc::Global;
 use tb_types::{Kind, OsmId, Tags, Why};
@@ -36,7 +36,7 @@ pub fn relation_of(
         return Err(BlockErr::Bad(Why::Uneven));
     }
     let tags = tags_of(alloc, strings, &keys, &values)?;
-    let ids = sums(alloc, &ids)?;
+    let ids = sums_of(alloc, ids)?;
     let members = members_of(alloc, &ids, &kinds)?;
     Ok((OsmId(signed_64(id)), tags, members))
 }

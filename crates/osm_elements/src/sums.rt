@@ -7,8 +7,14 @@ use std::alloc::Global;
 use tb_types::Why;
 use tb_wire::unzigzag;
 
-/// The numbers whose differences these are, the first from 0. `Range` where one passes 64 bits.
-pub fn sums(alloc: Global, differences: &[u64]) -> Result<Vec<i64>, BlockErr>
+/// The numbers whose differences these are, the first from 0. `Range` where one passes 64 bits. The differences are freed.
+pub fn sums_of(alloc: Global, differences: Vec<u64>) -> Result<Vec<i64>, BlockErr>
+    ensures { Gives (λ v. v.items) result (sums differences.items) }
+{
+    sums(alloc, &differences)
+}
+
+fn sums(alloc: Global, differences: &[u64]) -> Result<Vec<i64>, BlockErr>
     ensures { Gives (λ v. v.items) result (sums differences.now) }
 {
     let mut sums = Vec::with_capacity(alloc, differences.len())?;

@@ -151,7 +151,7 @@ fn the_first_reason_is_named(rt: HostRuntime) -> Result<(), Fail> {
     Ok(())
 }
 
-const HEADERS: [(&[u8], Result<Option<Bounds>, BlockErr>); 12] = [
+const HEADERS: [(&[u8], Result<Option<Bounds>, BlockErr>); 13] = [
     // nothing at all
     (b"", Ok(None)),
     // both features
@@ -196,6 +196,11 @@ const HEADERS: [(&[u8], Result<Option<Bounds>, BlockErr>); 12] = [
     // a box without its bottom, and a feature
     (
         b"\x22\x01\x58\x0a\x02\x08\x02",
+        Err(BlockErr::Bad(Why::Missing)),
+    ),
+    // the same, the feature behind the box
+    (
+        b"\x0a\x02\x08\x02\x22\x01\x58",
         Err(BlockErr::Bad(Why::Missing)),
     ),
     // a feature

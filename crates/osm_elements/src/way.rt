@@ -7,7 +7,7 @@ use crate::message::{fields, last_number, numbers};
 use crate::node::required;
 use crate::numbers::{ELEMENT_ID, ELEMENT_KEYS, ELEMENT_VALUES, WAY_REFS};
 use crate::signed::signed_64;
-use crate::sums::sums;
+use crate::sums::sums_of;
 use crate::tags::tags_of;
 use std::alloc::Global;
 use tb_types::{OsmId, Tags};
@@ -28,7 +28,7 @@ pub fn way_of(
     let refs = numbers(alloc, WAY_REFS, &fields)?;
     let id = required(id)?;
     let tags = tags_of(alloc, strings, &keys, &values)?;
-    let refs = sums(alloc, &refs)?;
+    let refs = sums_of(alloc, refs)?;
     let refs = ids(alloc, &refs)?;
     Ok((OsmId(signed_64(id)), tags, refs))
 }

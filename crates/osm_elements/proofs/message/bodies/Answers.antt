@@ -5,7 +5,7 @@ use Rattle.osm_elements.proofs.message.bodies.Goals as goal
 
 pub returns-in_err-put_body : goal.returns-in_err-put_body
 returns-in_err-put_body c =
-    handed_on _ c.from_residual.result c.in_err-put_body.field-0.0 _ _ c.from_residual.ensures.1 (c.in_err-put_body.ensures {u = tt})
+    handed_on _ c.from_residual-in_err-put_body.result c.in_err-put_body.field-0.0 _ _ c.from_residual-in_err-put_body.ensures.1 (c.in_err-put_body.ensures {u = tt})
     (λ why stop. part_stopped with_found with_found-part one_body c.args.number c.args.fields.now c.loop-field.field-index _ (map (λ b. b.now) c.loop-field.bodies.items) why _ c.loop-field-test.true stop c.loop-field.invariant)
 
 pub loop-field-preserved : goal.loop-field-preserved

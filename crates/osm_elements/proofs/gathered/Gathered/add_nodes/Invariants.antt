@@ -1,8 +1,15 @@
-use Rattle.std.proofs.Common.{map, drop}
-use Rattle.osm_elements.specs.Block.{nodes_in}
+use Rattle.std.proofs.Common.{◌-◌, ◌≤◌, length, map}
+use Rattle.osm_elements.specs.Block.{one}
+use Rattle.osm_elements.specs.Elements.{node_of}
+use Rattle.osm_elements.specs.Walks.{each_from}
 use Rattle.osm_elements.proofs.Joins.{Going}
 use Rattle.osm_elements.proofs.gathered.Gathered.add_nodes.Given as goal
 
 abbrev pub invariant-loop-body : goal.invariant-loop-body
-invariant-loop-body l =
-    Going l.fn.self l.self (nodes_in (map (λ b. b.now) l.strings) l.grid (map (λ b. b.now) (drop l.body-index l.bodies))) (nodes_in (map (λ b. b.now) l.strings) l.grid (map (λ b. b.now) l.bodies))
+invariant-loop-body l = record {
+  within : l.at ≤ length l.group;
+  told : Going l.fn.self l.self (each_from (λ body. one (node_of (map (λ b. b.now) l.strings) l.grid body)) 1 l.group l.at) (each_from (λ body. one (node_of (map (λ b. b.now) l.strings) l.grid body)) 1 l.group 0);
+}
+
+abbrev pub decreases-loop-body : goal.decreases-loop-body
+decreases-loop-body l = length l.group - l.at

@@ -1,0 +1,6 @@
+use Rattle.std.proofs.Common.{◌≡◌, drop}
+use Rattle.osm_elements.specs.Tags.{has_key}
+use Rattle.osm_elements.proofs.tag_list.has_key.Given as goal
+
+abbrev pub invariant-loop-tag : goal.invariant-loop-tag
+invariant-loop-tag l = has_key l.key (drop l.tag-index l.tags) ≡ has_key l.key l.tags
