@@ -1,4 +1,2 @@
-pub mod Fronts
-pub mod Short
+pub mod Appending
 pub mod Told
-pub mod WorkedRows

@@ -1,52 +1,33 @@
--- What is due for a command: the archive that its extract gives, or why there is none.
-use Rattle.std.specs.Prelude.{◌≡◌, ℕ, Option, None, Some, List, ◌++◌, length}
-use Rattle.build_cli.specs.Command.{Command, nodes, command_of}
-use Rattle.build_cli.specs.Line.{success_line}
-use Rattle.build_cli.specs.Extract.{extract_of}
-use Rattle.build_cli.specs.Node.{NodeSeen}
-use Rattle.build_cli.specs.Tile.{tile_of}
-use Rattle.build_cli.specs.Archive.{archive_text, tile_count}
+-- What is due for a command.
+use Rattle.std.specs.Prelude.{◌≡◌, ℕ, Option, None, Some, option_map, List, ◌++◌}
+use Rattle.build_one.specs.Due as builds
+use Rattle.build_cli.specs.Command.{Command, profile_of, command_of}
 
 pub data Due : Type 0 where
   -- the words are no command
   not_understood : Due
-  -- the extract has a form that isn't built yet
-  not_yet : Due
-  -- an archive of so many tiles
-  builds : ℕ → List ℕ → Due
+  -- this is due for a build
+  of_build : builds.Due → Due
 
-abbrev pub due_of_node : List ℕ → Option (Option NodeSeen) → Due
-due_of_node key None = not_yet
-due_of_node key (Some node) = builds (tile_count (tile_of key node)) (archive_text key (tile_of key node))
+abbrev pub due_of_command : Option Command → Option (List ℕ) → Option (List ℕ) → Option Due
+due_of_command None profile extract = Some not_understood
+due_of_command (Some command) profile extract = option_map of_build (builds.due_of (profile_of command) profile extract)
 
--- what is due for a key and an extract
-abbrev pub due_of_key : List ℕ → List ℕ → Due
-due_of_key key extract = due_of_node key (extract_of extract)
-
-abbrev pub due_of_command : Command → List ℕ → Due
-due_of_command (nodes key from to) extract = due_of_key key extract
-
--- this archive and this line of success are due
-abbrev pub IsMade : Due → List ℕ → List ℕ → Type 0
-IsMade not_understood archive line = ⊥
-IsMade not_yet archive line = ⊥
-IsMade (builds tiles text) archive line = (archive ≡ text) × (line ≡ success_line tiles (length text))
-
-abbrev pub due_of_words : Option Command → List ℕ → Due
-due_of_words None extract = not_understood
-due_of_words (Some command) extract = due_of_command command extract
-
--- what is due for these words and the bytes of the extract
-abbrev pub due_of : List (List ℕ) → List ℕ → Due
-due_of words extract = due_of_words (command_of words) extract
+-- what is due for these words, as far as the bytes of profile and extract are told
+abbrev pub due_of : List (List ℕ) → Option (List ℕ) → Option (List ℕ) → Option Due
+due_of words profile extract = due_of_command (command_of words) profile extract
 
 abbrev pub status_of : Due → ℕ
 status_of not_understood = 2
-status_of not_yet = 13
-status_of (builds tiles archive) = 0
+status_of (of_build (builds.faulty spot why)) = 3
+status_of (of_build (builds.damaged damage)) = 4
+status_of (of_build builds.not_yet) = 13
+status_of (of_build (builds.builds totals archive)) = 0
 
 -- the archive that is due has been written behind what stood there
 abbrev pub HasWritten : Due → List ℕ → List ℕ → Type 0
 HasWritten not_understood old new = ⊥
-HasWritten not_yet old new = ⊥
-HasWritten (builds tiles text) old new = new ≡ old ++ text
+HasWritten (of_build (builds.faulty spot why)) old new = ⊥
+HasWritten (of_build (builds.damaged damage)) old new = ⊥
+HasWritten (of_build builds.not_yet) old new = ⊥
+HasWritten (of_build (builds.builds totals archive)) old new = new ≡ old ++ archive

@@ -1,13 +1,6 @@
 pub mod Answers
-pub mod Archive
-pub mod Block
 pub mod Command
 pub mod Due
-pub mod Extract
-pub mod Fields
 pub mod Line
 pub mod Names
-pub mod Node
 pub mod Objects
-pub mod Rows
-pub mod Tile

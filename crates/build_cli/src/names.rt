@@ -1,4 +1,4 @@
-ghost use Rattle.std.specs.Prelude.{◌≡◌, map, string_bytes, IfOk};
+ghost use Rattle.std.specs.Prelude.{◌≡◌, [], ◌∷◌, map, string_bytes, IfOk};
 ghost use Rattle.std.specs.Option.{option_map};
 ghost use Rattle.build_cli.specs.Command.{command_of};
 ghost use Rattle.build_cli.specs.Names.{names_of};
@@ -22,23 +22,36 @@ pub struct Names {
 pub fn names_of(alloc: Global, words: &[String]) -> Result<Option<Names>, Memory>
     ensures { IfOk result (λ names. names ≡ option_map names_of (command_of (map (λ word. string_bytes word) words.now))) }
 {
-    let Some(
-        Command::Nodes {
-            extract,
-            archive,
-            ..
-        },
-    ) = command_of(words)
-    else {
-        return Ok(None);
-    };
+    match command_of(words) {
+        None => Ok(None),
+        Some(
+            Command::Nodes {
+                extract,
+                archive,
+                ..
+            },
+        ) => Ok(Some(named(alloc, "", extract, archive)?)),
+        Some(
+            Command::Build {
+                profile,
+                extract,
+                archive,
+            },
+        ) => Ok(Some(named(alloc, profile, extract, archive)?)),
+    }
+}
+
+// The names of a command that reads one extract.
+fn named(alloc: Global, profile: &str, extract: &str, archive: &str) -> Result<Names, Memory>
+    ensures { IfOk result (λ names. names ≡ record { profile = profile.now; readers = extract.now ∷ []; output = archive.now }) }
+{
     let mut readers = Seq::new(alloc);
     readers.push(text(alloc, extract)?)?;
-    Ok(Some(Names {
-        profile: Text::new(alloc),
+    Ok(Names {
+        profile: text(alloc, profile)?,
         readers,
         output: text(alloc, archive)?,
-    }))
+    })
 }
 
 fn text(alloc: Global, word: &str) -> Result<Text, Memory>

@@ -1,0 +1,105 @@
+use super::{CAFE, Faults, NONE, nodes};
+use std::test::Fail;
+
+// The calls of the reader over the header frame and one data frame: the size, two loads for each header, and one for each
+// body.
+const READER_CALLS: u64 = 7;
+
+// The same with a compressed header.
+const DAMAGED: &[u8] =
+    b"\x00\x00\x00\x0d\x0a\x09OSMHeader\x18\x02\x1a\x00\x00\x00\x00\x0b\x0a\x07OSMData\x18\x25\x0a\x23\x0a\x11\x0a\x00\x0a\x07amenity\x0a\x04cafe\x12\x0e\x0a\x0c\x08\x02\x12\x01\x01\x1a\x01\x02\x40\x00\x48\x00";
+
+#[test]
+fn reader_faults_are_told(rt: HostRuntime) -> Result<(), Fail> {
+    let alloc = rt.alloc();
+    for call in 0..READER_CALLS + 1 {
+        let faults = Faults {
+            reader: &[call],
+            ..NONE
+        };
+        let ran = nodes(alloc, "amenity", CAFE, &faults)?;
+        let fails = call < READER_CALLS;
+        assert!(rt; ran.status == if fails { 7 } else { 0 }, "call {call}");
+        assert!(rt;
+            !fails
+                || ran.archive.bytes().is_empty()
+                    && ran.console.bytes() == b"source: lane 0\n".as_slice(),
+            "call {call}"
+        );
+    }
+    // A fault behind damage is answered before it.
+    let faults = Faults {
+        reader: &[READER_CALLS - 1],
+        ..NONE
+    };
+    let ran = nodes(alloc, "amenity", DAMAGED, &faults)?;
+    assert!(rt; ran.status == 7, "a fault behind damage");
+    let ran = nodes(alloc, "amenity", DAMAGED, &NONE)?;
+    assert!(rt; ran.status == 4, "damage alone");
+    Ok(())
+}
+
+#[test]
+fn sink_faults_are_told(rt: HostRuntime) -> Result<(), Fail> {
+    let alloc = rt.alloc();
+    let whole = nodes(alloc, "amenity", CAFE, &NONE)?.archive;
+    // The calls that fail, the room of the archive's sink, the status, how much of the archive is there, the console.
+    let cases: [(Faults<'_>, u8, usize, &[u8]); 5] = [
+        (
+            Faults {
+                archive: &[0],
+                ..NONE
+            },
+            9,
+            0,
+            b"sink: archive\n",
+        ),
+        (
+            Faults {
+                archive: &[1],
+                ..NONE
+            },
+            0,
+            257,
+            b"built: tiles 1, entries 1, contents 1, bytes 257\n",
+        ),
+        (
+            Faults {
+                console: &[0],
+                ..NONE
+            },
+            9,
+            257,
+            b"",
+        ),
+        (
+            Faults {
+                console: &[2],
+                ..NONE
+            },
+            9,
+            257,
+            b"built: tiles 1",
+        ),
+        (Faults { room: 200, ..NONE }, 9, 200, b"sink: archive\n"),
+    ];
+    for (faults, status, len, line) in cases {
+        let ran = nodes(alloc, "amenity", CAFE, &faults)?;
+        assert!(rt; ran.status == status && ran.archive.bytes().len() == len);
+        assert!(rt;
+            whole.bytes().starts_with(ran.archive.bytes()),
+            "a front of the archive"
+        );
+        assert!(rt; ran.console.bytes() == line);
+    }
+    let silent = Faults {
+        console: &[0],
+        ..NONE
+    };
+    let ran = nodes(alloc, "amenity", b"", &silent)?;
+    assert!(rt;
+        ran.status == 4 && ran.console.bytes().is_empty(),
+        "a refusal stands"
+    );
+    Ok(())
+}

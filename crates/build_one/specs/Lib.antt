@@ -1,0 +1,15 @@
+pub mod Answers
+pub mod Archive
+pub mod Bounds
+pub mod Contents
+pub mod Due
+pub mod Found
+pub mod Items
+pub mod Made
+pub mod Meta
+pub mod Metadata
+pub mod Profiles
+pub mod Rows
+pub mod Survey
+pub mod Tile
+pub mod Worked

@@ -1,0 +1,81 @@
+-- Worked cases that the definitions were checked on.
+use Rattle.std.specs.Prelude.{◌≡◌, ℕ, ℤ, pos, neg_ℤ, Option, None, Some, option_map, Result, Ok, Err, List, [], ◌∷◌, ◌++◌, length, codes}
+use Rattle.tb_types.specs.declared.damage.Why.{Why}
+use Rattle.tb_types.specs.declared.damage.Why.TheVariants as reasons
+use Rattle.tb_types.specs.declared.damage.Damage.{Damage}
+use Rattle.tb_types.specs.declared.location.LatLon.{LatLon}
+use Rattle.tb_types.specs.declared.location.Bounds.{Bounds}
+use Rattle.osm_elements.specs.declared.element.NodeEl.{NodeEl}
+use Rattle.build_one.specs.declared.bounds.MapBounds.{MapBounds}
+use Rattle.build_one.specs.Contents.{Content, header, elements, contents_of}
+use Rattle.build_one.specs.Bounds.{world, bounds_of}
+use Rattle.tb_types.specs.declared.attribute.FieldKind.TheVariants as field_kinds
+use Rattle.build_one.specs.declared.meta.MetaLayer.{MetaLayer}
+use Rattle.build_one.specs.Meta.{metadata_text}
+use Rattle.build_one.specs.Rows.{point_of, point_ints}
+use Rattle.build_one.specs.Archive.{root_text, archive_text}
+
+-- a header frame whose block has no fields
+abbrev pub header_frame : List ℕ
+header_frame = 0 ∷ 0 ∷ 0 ∷ 13 ∷ 10 ∷ 9 ∷ codes "OSMHeader" ++ 24 ∷ 2 ∷ 10 ∷ 0 ∷ []
+
+-- the same with a compressed block
+abbrev pub compressed_header : List ℕ
+compressed_header = 0 ∷ 0 ∷ 0 ∷ 13 ∷ 10 ∷ 9 ∷ codes "OSMHeader" ++ 24 ∷ 2 ∷ 26 ∷ 0 ∷ []
+
+-- a data frame with node 1 at latitude 0 and longitude 0, `amenity=cafe`
+abbrev pub cafe_frame : List ℕ
+cafe_frame =
+    0 ∷ 0 ∷ 0 ∷ 11 ∷ 10 ∷ 7 ∷ codes "OSMData" ++ 24 ∷ 37 ∷ 10 ∷ 35 ∷ 10 ∷ 17 ∷ 10 ∷ 0 ∷ 10 ∷ 7 ∷ codes "amenity" ++ 10 ∷ 4 ∷ codes "cafe"
+    ++ 18 ∷ 14 ∷ 10 ∷ 12 ∷ 8 ∷ 2 ∷ 18 ∷ 1 ∷ 1 ∷ 26 ∷ 1 ∷ 2 ∷ 64 ∷ 0 ∷ 72 ∷ 0 ∷ []
+
+-- a cafe at a location
+abbrev pub cafe_at : ℤ → ℤ → NodeEl
+cafe_at lat lon = record { index = 0; id = record { 0 = pos 1 }; at = Some (record { lat = lat; lon = lon }); tags = record { pairs = (codes "amenity", codes "cafe") ∷ [] } }
+
+abbrev pub cafe : NodeEl
+cafe = cafe_at (pos 0) (pos 0)
+
+abbrev pub cafe_contents : List Content
+cafe_contents = header None ∷ elements (record { nodes = cafe ∷ []; ways = []; relations = [] }) ∷ []
+
+-- the integers of a node's point, if it has a location
+abbrev pub ints_of : NodeEl → Option (List ℕ)
+ints_of n = option_map point_ints (point_of n)
+
+-- what is told of a map of a key
+abbrev pub key_layer : List ℕ → List MetaLayer
+key_layer key = record { id = codes "nodes"; fields = (key, field_kinds.Text) ∷ [] } ∷ []
+
+abbrev pub key_metadata : List ℕ → List ℕ
+key_metadata key = metadata_text (codes "map") (key_layer key)
+
+-- the tile of the cafe: one layer with one point in the middle
+abbrev pub cafe_tile : List ℕ
+cafe_tile =
+    26 ∷ 46 ∷ 10 ∷ 5 ∷ codes "nodes" ++ 18 ∷ 15 ∷ 8 ∷ 11 ∷ 18 ∷ 2 ∷ 0 ∷ 0 ∷ 24 ∷ 1 ∷ 34 ∷ 5 ∷ 9 ∷ 128 ∷ 32 ∷ 128 ∷ 32 ∷ 26 ∷ 7 ∷ codes "amenity"
+    ++ 34 ∷ 6 ∷ 10 ∷ 4 ∷ codes "cafe" ++ 40 ∷ 128 ∷ 32 ∷ 120 ∷ 2 ∷ []
+
+-- an archive without a tile
+abbrev pub no_tile : Option (List ℕ)
+no_tile = None
+
+abbrev pub damage_in : ℕ → Why → Result (List Content) Damage
+damage_in block why = Err (record { block = block; why = why })
+
+pub record WorkedRows : Type 0 where
+  pub header_alone : contents_of header_frame ≡ Ok (header None ∷ [])
+  pub one_cafe : contents_of (header_frame ++ cafe_frame) ≡ Ok cafe_contents
+  pub two_bytes_more : contents_of (header_frame ++ cafe_frame ++ 0 ∷ 0 ∷ []) ≡ damage_in 2 reasons.Cut
+  pub nothing : contents_of [] ≡ damage_in 0 reasons.NoHeader
+  pub data_alone : contents_of cafe_frame ≡ damage_in 0 reasons.NoHeader
+  pub compressed : contents_of compressed_header ≡ damage_in 0 reasons.Compressed
+  pub middle : ints_of cafe ≡ Some (9 ∷ 4096 ∷ 4096 ∷ [])
+  pub root : root_text (Some cafe_tile) ≡ 1 ∷ 0 ∷ 1 ∷ 48 ∷ 1 ∷ []
+  pub empty_root : root_text no_tile ≡ 0 ∷ []
+  pub metadata : key_metadata (codes "amenity") ≡ codes "{\"name\":\"map\",\"vector_layers\":[{\"fields\":{\"amenity\":\"String\"},\"id\":\"nodes\"}]}"
+  pub without_tile : length (archive_text (key_metadata (codes "amenity")) world no_tile) ≡ 205
+  pub with_cafe : length (archive_text (key_metadata (codes "amenity")) world (Some cafe_tile)) ≡ 257
+  pub of_shops : length (archive_text (key_metadata (codes "shop")) world no_tile) ≡ 202
+  -- 99 nanodegrees are 0 and -101 are -2, in 10^-7 degrees
+  pub bounds : bounds_of (Some (record { left = neg_ℤ (pos 101); right = pos 99; top = pos 200; bottom = neg_ℤ (pos 1) })) ≡ record { west = neg_ℤ (pos 2); south = neg_ℤ (pos 1); east = pos 0; north = pos 2 }

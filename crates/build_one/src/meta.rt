@@ -1,0 +1,78 @@
+ghost use Rattle.std.specs.Prelude.{◌≡◌, IfOk, map, string_bytes};
+ghost use Rattle.serde_json.specs.Data.{string, array, object, no_members};
+ghost use Rattle.serde_json.specs.View.{view, items_view};
+ghost use Rattle.build_one.specs.Meta.{kind_text, with_fields, layer_data, layer_items, metadata_of, metadata_text};
+
+use serde_json::{Map, Value, json, push, put};
+use std::alloc::{AllocError, Global};
+use tb_types::{FieldKind, Seq, Text};
+
+/// What a map's metadata says of a layer: its id, and its fields with the kinds of their values.
+#[derive(Debug, Drop)]
+pub struct MetaLayer {
+    pub id: Text,
+    pub fields: Seq<(Text, FieldKind)>,
+}
+
+/// The metadata of a map: a JSON object, without blanks (PMTiles 3, section 5).
+#[tactic(auto, unfolding(crate::specs::Meta::metadata_of, crate::specs::Meta::metadata_text))]
+pub fn metadata_text(alloc: Global, name: &str, layers: &[MetaLayer]) -> Result<String, AllocError>
+    ensures { IfOk result (λ text. string_bytes text ≡ metadata_text name.now layers.now) }
+{
+    let value = metadata_of(alloc, name, layers)?;
+    value.to_string(alloc)
+}
+
+#[tactic(auto, unfolding(crate::specs::Meta::metadata_of))]
+fn metadata_of(alloc: Global, name: &str, layers: &[MetaLayer]) -> Result<Value, AllocError>
+    ensures { IfOk result (λ v. view v ≡ metadata_of name.now layers.now) }
+{
+    let layers = layer_values(alloc, layers)?;
+    json!(in alloc; {"name": name, "vector_layers": layers})
+}
+
+fn layer_values(alloc: Global, layers: &[MetaLayer]) -> Result<Value, AllocError>
+    ensures { IfOk result (λ v. view v ≡ array (layer_items layers.now)) }
+{
+    let mut values = Vec::new(alloc);
+    for layer in layers {
+        push(&mut values, layer_value(alloc, layer)?)?;
+    }
+    Ok(Value::Array(values))
+}
+
+#[tactic(auto, unfolding(crate::specs::Meta::layer_data))]
+fn layer_value(alloc: Global, layer: &MetaLayer) -> Result<Value, AllocError>
+    ensures { IfOk result (λ v. view v ≡ layer_data layer.now) }
+{
+    let fields = fields_value(alloc, layer.fields.as_slice())?;
+    json!(in alloc; {"fields": fields, "id": layer.id.as_str()})
+}
+
+fn fields_value(alloc: Global, fields: &[(Text, FieldKind)]) -> Result<Value, AllocError>
+    ensures { IfOk result (λ v. view v ≡ object (with_fields no_members fields.now)) }
+{
+    let mut members = Map::new(alloc);
+    for field in fields {
+        let kind = kind_value(alloc, field.1)?;
+        put(&mut members, alloc, field.0.as_str(), kind)?;
+    }
+    Ok(Value::Object(members))
+}
+
+fn kind_value(alloc: Global, kind: FieldKind) -> Result<Value, AllocError>
+    ensures { IfOk result (λ v. view v ≡ string (kind_text kind)) }
+{
+    Value::try_from_str(alloc, kind_text(kind))
+}
+
+#[tactic(auto, unfolding(crate::specs::Meta::kind_text))]
+fn kind_text(kind: FieldKind) -> &'static str
+    ensures { result.now ≡ kind_text kind }
+{
+    match kind {
+        FieldKind::Text => "String",
+        FieldKind::Number => "Number",
+        FieldKind::Boolean => "Boolean",
+    }
+}

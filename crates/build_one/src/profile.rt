@@ -1,0 +1,86 @@
+ghost use Rattle.std.specs.Prelude.{◌≡◌, ◌<◌, IfSome, length};
+ghost use Rattle.profile_rules.specs.Faults.{Gives};
+ghost use Rattle.profile_rules.specs.Profile.{profile_of};
+ghost use Rattle.profile_rules.specs.Sound.{IsSound};
+ghost use Rattle.build_one.specs.Due.{is_built, parts_from};
+ghost use Rattle.build_one.specs.Profiles.{IsKeyed, IsAlone, ReadsProfile, LoadsText, ProfileCounts};
+
+use crate::from::ProfileFrom;
+use crate::numbers::LONGEST_PROFILE;
+use crate::stop::Stop;
+use profile_rules::{
+    Part, Profile, ProfileErr, ProfileWhy, Spot, has_points_only, one_rule, read_profile, zooms,
+};
+use std::alloc::Global;
+use tb_outside::Source;
+use tb_types::Whom;
+
+/// The profile of a build. A text is refused by its size before it is loaded.
+pub fn profile_from<P: Source>(
+    alloc: Global,
+    from: &ProfileFrom,
+    source: &mut P,
+) -> Result<Profile, Stop>
+    requires keyed { IsKeyed from.now }
+    ensures told { IfSome (parts_from from.now (P.seen source.old).bytes) (ReadsProfile result) }
+    ensures counts { ProfileCounts result (P.seen source.old).faults (P.seen source.new).faults }
+    ensures bytes { (P.seen source.new).bytes ≡ (P.seen source.old).bytes }
+    ensures alone { IsAlone from.now → source.new ≡ source.old }
+{
+    match from {
+        ProfileFrom::Read => read_from(alloc, source),
+        ProfileFrom::OneRule(key) => Ok(one_rule(alloc, key.as_str())?),
+    }
+}
+
+// The profile whose text a source has.
+fn read_from<P: Source>(alloc: Global, source: &mut P) -> Result<Profile, Stop>
+    ensures told { IfSome (P.seen source.old).bytes (λ text. ReadsProfile result (profile_of text)) }
+    ensures counts { ProfileCounts result (P.seen source.old).faults (P.seen source.new).faults }
+    ensures bytes { (P.seen source.new).bytes ≡ (P.seen source.old).bytes }
+{
+    let text = match load_text(alloc, source) {
+        Ok(text) => text,
+        Err(stop) => return Err(stop),
+    };
+    match read_profile(alloc, &text) {
+        Ok(profile) => Ok(profile),
+        Err(ProfileErr::Bad { spot, why }) => Err(Stop::Profile { spot, why }),
+        Err(ProfileErr::Memory) => Err(Stop::Memory),
+    }
+}
+
+// The text of a profile, if it isn't too long.
+#[tactic(auto, unfolding(profile_rules::specs::Profile::profile_of))]
+fn load_text<P: Source>(alloc: Global, source: &mut P) -> Result<Vec<u8>, Stop>
+    ensures told { IfSome (P.seen source.old).bytes (LoadsText result) }
+    ensures counts { ProfileCounts result (P.seen source.old).faults (P.seen source.new).faults }
+    ensures bytes { (P.seen source.new).bytes ≡ (P.seen source.old).bytes }
+{
+    let size = match source.size() {
+        Ok(size) => size,
+        Err(_) => return Err(Stop::Source(Whom::Profile)),
+    };
+    if size > LONGEST_PROFILE {
+        return Err(Stop::Profile {
+            spot: Spot {
+                part: Part::Top,
+                no: 0,
+            },
+            why: ProfileWhy::Long,
+        });
+    }
+    let mut text = vec![in alloc; 0u8; size as usize]?;
+    match source.load(0, &mut text) {
+        Ok(()) => Ok(text),
+        Err(_) => Err(Stop::Source(Whom::Profile)),
+    }
+}
+
+/// Whether a profile asks for points at zoom 0 alone, which are built yet.
+pub fn is_built(profile: &Profile) -> bool
+    ensures built { result ≡ is_built profile.now }
+    ensures sound { IsSound profile.now }
+{
+    zooms(profile).1 == 0 && has_points_only(profile)
+}

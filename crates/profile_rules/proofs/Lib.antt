@@ -1,0 +1,10 @@
+pub mod Digits
+pub mod FieldMaps
+pub mod Marks
+pub mod Reading
+pub mod SoundParts
+pub mod SoundProfiles
+pub mod SoundSpecs
+pub mod Tables
+pub mod Texts
+pub mod WorkedProfiles
