@@ -4,25 +4,14 @@
 # An extract in PBF form may have any blobs: osmium writes raw ones. Outside the gate.
 set -eu
 top=$(cd "$(dirname "$0")/.." && pwd)
-for tool in rt python3; do
-  command -v "$tool" >/dev/null 2>&1 || { echo "nodes: skipped, there is no $tool"; exit 0; }
-done
-if ! command -v osmium >/dev/null 2>&1; then
-  (apt-get update && apt-get install -y osmium-tool) >/dev/null 2>&1 || { echo "nodes: skipped, osmium-tool can't be installed"; exit 0; }
-fi
-if [ ! -x /usr/bin/time ]; then
-  (apt-get update && apt-get install -y time) >/dev/null 2>&1 || { echo "nodes: skipped, GNU time can't be installed"; exit 0; }
-fi
 work=$(mktemp -d)
 trap 'rm -rf "$work"' EXIT
+. "$top/bench/prepare.sh"
+prepare nodes "$top" "$work"
 if [ $# -gt 0 ]; then
   osmium cat --no-progress -f pbf,pbf_compression=none -o "$work/raw.pbf" "$1"
 else
   python3 "$top/bench/write_extract.py" "$work/raw.pbf"
-fi
-program="$top/crates/tilebuild/out/tilebuild"
-if [ ! -x "$program" ]; then
-  (cd "$top/crates/tilebuild" && rt run -- nodes amenity data/cafe.pbf "$work/cafe.pmtiles" >"$work/build.log" 2>&1) || { echo "nodes: the program isn't proved"; tail -n 5 "$work/build.log"; exit 1; }
 fi
 echo "extract: $(stat -c %s "$work/raw.pbf") bytes"
 for turn in 1 2 3; do

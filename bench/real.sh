@@ -3,22 +3,14 @@
 # Usage: bash bench/real.sh [EXTRACT]. Without an extract it fetches one (bench/get_real.sh).
 set -eu
 top=$(cd "$(dirname "$0")/.." && pwd)
-for tool in rt python3; do
-  command -v "$tool" >/dev/null 2>&1 || { echo "real: skipped, there is no $tool"; exit 0; }
-done
-if [ ! -x /usr/bin/time ]; then
-  (apt-get update && apt-get install -y time) >/dev/null 2>&1 || { echo "real: skipped, GNU time can't be installed"; exit 0; }
-fi
 work=$(mktemp -d)
 trap 'rm -rf "$work"' EXIT
+. "$top/bench/prepare.sh"
+prepare real "$top" "$work"
 if [ $# -gt 0 ]; then
   osmium cat --no-progress -f pbf,pbf_compression=none -o "$work/raw.pbf" "$1"
 else
   bash "$top/bench/get_real.sh" "$work/raw.pbf" || { echo "real: skipped"; exit 0; }
-fi
-program="$top/crates/tilebuild/out/tilebuild"
-if [ ! -x "$program" ]; then
-  (cd "$top/crates/tilebuild" && rt run -- nodes amenity data/cafe.pbf "$work/cafe.pmtiles" >"$work/build.log" 2>&1) || { echo "real: the program isn't proved"; tail -n 5 "$work/build.log"; exit 1; }
 fi
 echo "extract: $(stat -c %s "$work/raw.pbf") bytes"
 python3 "$top/bench/measure.py" tilebuild "$program" nodes amenity "$work/raw.pbf" "$work/nodes.pmtiles"
