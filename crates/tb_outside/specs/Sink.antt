@@ -13,14 +13,14 @@ abbrev pub with_more : Option (List ℕ) → List ℕ → Option (List ℕ)
 with_more None more = None
 with_more (Some bytes) more = Some (bytes ++ more)
 
--- told bytes grow by a front of the piece
-abbrev pub GrowsByFront : Option (List ℕ) → Option (List ℕ) → List ℕ → Type 0
-GrowsByFront old new piece = (front rest : List ℕ) × (piece ≡ front ++ rest) × (new ≡ with_more old front)
+-- told bytes grow by a prefix of the piece
+abbrev pub GrowsByPrefix : Option (List ℕ) → Option (List ℕ) → List ℕ → Type 0
+GrowsByPrefix old new piece = (prefix rest : List ℕ) × (piece ≡ prefix ++ rest) × (new ≡ with_more old prefix)
 
 -- what an append does
 pub record SinkAnswers (old new : SinkSeen) (piece : List ℕ) (result : Result ⊤ Failed) : Type 0 where
   pub appended : OnOk result (new.bytes ≡ with_more old.bytes piece)
-  pub front : OnErr result (GrowsByFront old.bytes new.bytes piece)
+  pub prefix : OnErr result (GrowsByPrefix old.bytes new.bytes piece)
   pub ok : OnOk result (new.faults ≡ old.faults)
   pub err : OnErr result (Rose old.faults new.faults)
   pub never_falls : old.faults ≤ new.faults

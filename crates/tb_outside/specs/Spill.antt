@@ -32,9 +32,9 @@ with_ended runs = record { ended = closed runs; begun = None }
 abbrev pub with_bytes : Runs → List ℕ → Runs
 with_bytes runs more = record { ended = runs.ended; begun = option_map (λ bytes. bytes ++ more) runs.begun }
 
--- told runs grow by a front of the piece
-abbrev pub RunsGrowByFront : Option Runs → Option Runs → List ℕ → Type 0
-RunsGrowByFront old new piece = (front rest : List ℕ) × (piece ≡ front ++ rest) × (new ≡ option_map (λ runs. with_bytes runs front) old)
+-- told runs grow by a prefix of the piece
+abbrev pub RunsGrowByPrefix : Option Runs → Option Runs → List ℕ → Type 0
+RunsGrowByPrefix old new piece = (prefix rest : List ℕ) × (piece ≡ prefix ++ rest) × (new ≡ option_map (λ runs. with_bytes runs prefix) old)
 
 -- told runs stay, or the begun one is ended
 abbrev pub StaysOrEnds : Option Runs → Option Runs → Type 0
@@ -57,7 +57,7 @@ pub record BeginAnswers (old new : SpillSeen) (result : Result ℕ SpillErr) : T
 
 pub record AppendAnswers (old new : SpillSeen) (piece : List ℕ) (result : Result ⊤ SpillErr) : Type 0 where
   pub appended : OnOk result (new.runs ≡ option_map (λ runs. with_bytes runs piece) old.runs)
-  pub failed_runs : result ≡ Err spill_errors.Failed → RunsGrowByFront old.runs new.runs piece
+  pub failed_runs : result ≡ Err spill_errors.Failed → RunsGrowByPrefix old.runs new.runs piece
   pub failed : result ≡ Err spill_errors.Failed → Rose old.faults new.faults
   pub ok : OnOk result (new.faults ≡ old.faults)
   pub memory : result ≡ Err spill_errors.Memory → new ≡ old

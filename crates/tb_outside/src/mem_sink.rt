@@ -56,11 +56,11 @@ impl Sink for MemSink {
         ensures refused { is_refused result ≡ refuses_append self.old piece.now }
         ensures left { self.new ≡ after_append self.old piece.now }
     {
-        let (front, rest) = piece.split_at(piece.len().min(self.room - self.bytes.len()));
+        let (prefix, rest) = piece.split_at(piece.len().min(self.room - self.bytes.len()));
         if self.plan.fails_now() {
             return Err(Failed);
         }
-        if self.bytes.extend_from_slice(front).is_err() || !rest.is_empty() {
+        if self.bytes.extend_from_slice(prefix).is_err() || !rest.is_empty() {
             self.plan.fault();
             return Err(Failed);
         }

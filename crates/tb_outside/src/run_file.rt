@@ -1,4 +1,6 @@
-ghost use Rattle.std.specs.Prelude.{◌≡◌, ◌<◌, ◌↔◌, IsErr, IsNone, IsSome, None, false, is_some, vec_len, vec_capacity};
+ghost use Rattle.std.specs.Prelude.{◌≡◌, ◌+◌, ◌-◌, ◌^◌, ◌<◌, ◌≤◌, ◌↔◌, true, [], ◌++◌, min, map, length, IfOk, IfSome, IsErr, IsNone, IsSome, OnOk, None, Some, option_to_list, vec_len, vec_capacity};
+ghost use Rattle.std.specs.Option.{option_map};
+ghost use Rattle.tb_outside.specs.File.{LiesIn};
 
 use crate::spill::SpillErr;
 use std::alloc::Global;
@@ -11,7 +13,7 @@ use std::rt::Files;
 #[derive(Clone, Copy, Debug, PartialEq, Eq)]
 pub struct Span {
     from: u64,
-    len: u64,
+    pub len: u64,
 }
 
 impl Span {
@@ -26,7 +28,7 @@ pub struct RunFile<'a, R: Files> {
     rt: &'a R,
     path: String,
     opened: Option<R::File>,
-    ended: Vec<Span>,
+    pub ended: Vec<Span>,
     pub begun: Option<Span>,
     // the begun run can be ended without memory
     ghost room_to_end: { IsSome begun → vec_len ended < vec_capacity ended },
@@ -34,7 +36,8 @@ pub struct RunFile<'a, R: Files> {
 
 impl<'a, R: Files> RunFile<'a, R> {
     pub fn new(rt: &'a R, alloc: Global, path: String) -> RunFile<'a, R>
-        ensures { result.begun ≡ None }
+        ensures ended { result.ended.items ≡ [] }
+        ensures begun { result.begun ≡ None }
     {
         RunFile {
             rt,
@@ -46,7 +49,12 @@ impl<'a, R: Files> RunFile<'a, R> {
     }
 
     /// Ends the run that is begun and begins another behind it.
-    pub fn begin(&mut self) -> Result<u64, SpillErr> {
+    pub fn begin(&mut self) -> Result<u64, SpillErr>
+        ensures begun { OnOk result (option_map (λ span. span.len) self.new.begun ≡ Some 0) }
+        ensures ended { OnOk result (self.new.ended.items ≡ self.old.ended.items ++ option_to_list self.old.begun) }
+        ensures number { IfOk result (λ n. n ≡ length self.new.ended.items) }
+        ensures same { IsErr result → (self.new.ended.items ≡ self.old.ended.items) × (self.new.begun ≡ self.old.begun) }
+    {
         if self.ended.reserve(2).is_err() {
             return Err(SpillErr::Memory);
         }
@@ -66,8 +74,10 @@ impl<'a, R: Files> RunFile<'a, R> {
 
     /// Writes the piece behind the run that is begun.
     pub fn append(&mut self, piece: &[u8]) -> io::Result<()>
-        ensures none_begun { is_some self.old.begun ≡ false → IsErr result }
-        ensures begun { is_some self.new.begun ≡ is_some self.old.begun }
+        ensures none_begun { self.old.begun ≡ None → IsErr result }
+        ensures written { OnOk result (option_map (λ span. span.len) self.new.begun ≡ option_map (λ span. min (span.len + length piece.now) (2 ^ 64 - 1)) self.old.begun) }
+        ensures same { IsErr result → self.new.begun ≡ self.old.begun }
+        ensures ended { self.new.ended.items ≡ self.old.ended.items }
     {
         match (&mut self.opened, &mut self.begun) {
             (Some(file), Some(span)) => {
@@ -82,7 +92,10 @@ impl<'a, R: Files> RunFile<'a, R> {
 
     /// Ends the run that is begun, and gives its length.
     pub fn end(&mut self) -> Option<u64>
-        ensures { IsNone result ↔ is_some self.old.begun ≡ false }
+        ensures none_begun { IsNone result ↔ self.old.begun ≡ None }
+        ensures len { IfSome result (λ len. option_map (λ span. span.len) self.old.begun ≡ Some len) }
+        ensures ended { IsSome result → (self.new.ended.items ≡ self.old.ended.items ++ option_to_list self.old.begun) × (self.new.begun ≡ None) }
+        ensures same { IsNone result → (self.new.ended.items ≡ self.old.ended.items) × (self.new.begun ≡ self.old.begun) }
     {
         let span = self.begun.take()?;
         self.ended.push_reserved(span);
@@ -90,7 +103,11 @@ impl<'a, R: Files> RunFile<'a, R> {
     }
 
     /// Reads from an ended run.
-    pub fn read(&mut self, run: u64, at: u64, out: &mut [u8]) -> io::Result<()> {
+    pub fn read(&mut self, run: u64, at: u64, out: &mut [u8]) -> io::Result<()>
+        ensures within { OnOk result (LiesIn (map (λ span. span.len) self.old.ended.items) run at (length out.new)) }
+        ensures ended { self.new.ended.items ≡ self.old.ended.items }
+        ensures begun { self.new.begun ≡ self.old.begun }
+    {
         let span = usize::try_from(run)
             .ok()
             .and_then(|run| self.ended.get(run).copied());
@@ -112,7 +129,9 @@ impl<'a, R: Files> RunFile<'a, R> {
 }
 
 // The range of `len` bytes at a place of the run lies in it.
-fn fits(span: Span, at: u64, len: usize) -> bool {
+fn fits(span: Span, at: u64, len: usize) -> bool
+    ensures { result ≡ true ↔ at + len ≤ span.len }
+{
     at <= span.len && len as u64 <= span.len - at
 }
 

@@ -7,7 +7,7 @@ pub trait Sink {
     // The bytes so far, where the sink tells them, and the count of faults.
     ghost seen: { Self → SinkSeen };
 
-    /// Appends the whole piece, or a front of it where it fails.
+    /// Appends the whole piece, or a prefix of it where it fails.
     fn append(&mut self, piece: &[u8]) -> Result<(), Failed>
         ensures { SinkAnswers (seen self.old) (seen self.new) piece.now result };
 }

@@ -27,7 +27,7 @@ pub trait Spill {
     fn begin_run(&mut self) -> Result<u64, SpillErr>
         ensures { BeginAnswers (seen self.old) (seen self.new) result };
 
-    /// Appends the whole piece to the run that is begun, or a front of it where it fails, or nothing where memory is
+    /// Appends the whole piece to the run that is begun, or a prefix of it where it fails, or nothing where memory is
     /// wanting. A spill that doesn't tell its runs fails where none is begun.
     fn append(&mut self, piece: &[u8]) -> Result<(), SpillErr>
         requires { IfSome (seen self.old).runs (λ runs. IsSome runs.begun) }

@@ -9,6 +9,8 @@ const DATA: &str = "data";
 
 const RUNS: &str = "runs";
 
+const OTHERS: &str = "others";
+
 #[test]
 fn a_file_is_written_and_read_by_place(rt: HostRuntime) -> Result<(), Fail> {
     let alloc = rt.alloc();
@@ -53,10 +55,25 @@ fn a_file_keeps_runs_until_it_is_removed(rt: HostRuntime) -> Result<(), Fail> {
     assert!(rt; part == *b"bc");
     assert!(rt; spill.read_run(1, 0, &mut part).is_ok());
     assert!(rt; part == *b"de");
+    assert!(rt;
+        spill.read_run(0, 2, &mut part).is_err(),
+        "into the next run"
+    );
     assert!(rt; spill.read_run(1, 1, &mut part).is_err(), "past its end");
     assert!(rt; spill.read_run(2, 0, &mut part).is_err(), "no such run");
     spill.remove();
     assert!(rt; fs::open(&rt, RUNS).is_err(), "the file is removed");
+    Ok(())
+}
+
+#[test]
+fn a_file_of_others_stays_until_a_run_is_begun(rt: HostRuntime) -> Result<(), Fail> {
+    let alloc = rt.alloc();
+    fs::write(&rt, OTHERS, "what others wrote")?;
+    let spill = FileSpill::new(&rt, alloc, String::from_str(alloc, OTHERS)?);
+    spill.remove();
+    let mut source = FileSource::new(&rt, String::from_str(alloc, OTHERS)?);
+    assert!(rt; source.size() == Ok(17));
     Ok(())
 }
 

@@ -1,3 +1,11 @@
 pub mod Bags
+pub mod Clean
 pub mod Counts
+pub mod Laws
 pub mod Needs
+pub mod Orders
+pub mod Points
+pub mod Results
+pub mod Seats
+pub mod Worked
+pub mod Zigzag

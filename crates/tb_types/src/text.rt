@@ -1,4 +1,4 @@
-ghost use Rattle.std.specs.Prelude.{◌≡◌, ℕ, List, [], ◌++◌, OnOk, OnErr, string_bytes};
+ghost use Rattle.std.specs.Prelude.{◌≡◌, ℕ, List, [], ◌++◌, OnOk, OnErr, IfOk, IsUtf8, string_bytes};
 
 use crate::memory::Memory;
 use std::alloc::Global;
@@ -33,6 +33,15 @@ impl Text {
         Text { text }
     }
 
+    /// A copy of a text.
+    pub fn copy_of(alloc: Global, text: &str) -> Result<Self, Memory>
+        ensures { IfOk result (λ copy. copy ≡ text.now) }
+    {
+        Ok(Text {
+            text: String::from_str(alloc, text)?,
+        })
+    }
+
     /// The text as a string. It takes no memory.
     pub fn into_string(self) -> String
         ensures { string_bytes result ≡ self }
@@ -41,7 +50,8 @@ impl Text {
     }
 
     pub fn as_str(&self) -> &str
-        ensures { result.now ≡ self.now }
+        ensures exact { result.now ≡ self.now }
+        ensures utf8 { IsUtf8 self.now }
     {
         self.text.as_str()
     }

@@ -1,3 +1,6 @@
+/// The width and height of a tile, in units of its zoom's grid.
+pub const EXTENT: u32 = 4096;
+
 /// A tile by its zoom, its column and its row.
 #[derive(Clone, Copy, Debug, PartialEq, Eq)]
 pub struct TileXyz {

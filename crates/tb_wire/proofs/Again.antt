@@ -2,7 +2,7 @@
 use Rattle.std.proofs.Common.{◌≡◌, ◌≢◌, ℕ, zero, suc, ◌+◌, ◌-◌, ◌*◌, ◌/◌, ◌%◌, ◌^◌, ◌<◌, ◌≤◌, List, ◌++◌, Bool, true, false, nat_lt, nat_eq, Ok, Some, length, refl, sym, arith, take, drop, append_assoc, length-append}
 use Rattle.std.proofs.lemmas.Bool.{le-ltb, ne_eqb}
 use Rattle.std.proofs.Math.Seq.{drop-append_seam, take-append_seam}
-use Rattle.tb_wire.specs.Varint.{varint_of, varint, varint_at, spelling, spelling_within}
+use Rattle.tb_wire.specs.Varint.{varint_of, varint, varint_at, encoding, encoding_within}
 use Rattle.tb_wire.specs.Field.{Value, text, part_at, value_at, field_at}
 use Rattle.tb_wire.specs.Message.{len_text}
 use Rattle.tb_wire.specs.Again.{VarintsAreReadAgain, FieldsAreReadAgain}
@@ -10,14 +10,14 @@ use Rattle.tb_wire.proofs.Varints.{rest_below}
 
 -- the varint at the front is the number that was put there
 abbrev pub IsReadAgain : ℕ → ℕ → List ℕ → Type 0
-IsReadAgain more n behind = varint_of more (spelling_within more n ++ behind) ≡ Ok (n, length (spelling_within more n))
+IsReadAgain more n behind = varint_of more (encoding_within more n ++ behind) ≡ Ok (n, length (encoding_within more n))
 
 -- a byte that isn't the last
 pub one_more : (more n : ℕ) (behind : List ℕ) → nat_lt n 128 ≡ false → IsReadAgain more (n / 128) behind → IsReadAgain (suc more) n behind
 one_more more n behind large again =
     let more_to_come : nat_lt (n % 128 + 128) 128 ≡ false = le-ltb (n % 128 + 128) 128 (omega arith) in
     let number : n % 128 + 128 - 128 + 128 * (n / 128) ≡ n = omega arith in
-    let count : length (spelling_within more (n / 128)) + 1 ≡ suc (length (spelling_within more (n / 128))) = omega arith in
+    let count : length (encoding_within more (n / 128)) + 1 ≡ suc (length (encoding_within more (n / 128))) = omega arith in
     rw (large, more_to_come, again, number, count) refl
 
 -- the last byte, or one before it
@@ -32,31 +32,31 @@ read_again (suc more) n behind below =
     let rest : n / 128 < 2 ^ (7 * more + 1) = rw less at (rest_below (suc more) n (omega arith) below) in
     by_size more n behind (nat_lt n 128) refl (read_again more (n / 128) behind rest)
 
-pub spelling_read_again : (n : ℕ) (behind : List ℕ) → n < 2 ^ 64 → varint (spelling n ++ behind) ≡ Ok (n, length (spelling n))
-unfolding varint spelling
-spelling_read_again n behind below = read_again 9 n behind below
+pub encoding_read_again : (n : ℕ) (behind : List ℕ) → n < 2 ^ 64 → varint (encoding n ++ behind) ≡ Ok (n, length (encoding n))
+unfolding varint encoding
+encoding_read_again n behind below = read_again 9 n behind below
 
 -- a varint that stands between others
-pub read_between : (before behind : List ℕ) (n : ℕ) → n < 2 ^ 64 → varint_at (before ++ (spelling n ++ behind)) (length before) ≡ Ok (n, length before + length (spelling n))
+pub read_between : (before behind : List ℕ) (n : ℕ) → n < 2 ^ 64 → varint_at (before ++ (encoding n ++ behind)) (length before) ≡ Ok (n, length before + length (encoding n))
 read_between before behind n below =
-    let seam : drop (length before) (before ++ (spelling n ++ behind)) ≡ spelling n ++ behind = drop-append_seam before (spelling n ++ behind) in
-    rw (seam, spelling_read_again n behind below) refl
+    let seam : drop (length before) (before ++ (encoding n ++ behind)) ≡ encoding n ++ behind = drop-append_seam before (encoding n ++ behind) in
+    rw (seam, encoding_read_again n behind below) refl
 
 pub varints_are_read_again : VarintsAreReadAgain
 varints_are_read_again before behind n below = rw append_assoc (read_between before behind n below)
 
--- the spelling of a number has a byte
-pub spelling_within-some : (more n : ℕ) → 0 < length (spelling_within more n)
-spelling_within-some zero n = omega arith
-spelling_within-some (suc more) n = by_test (nat_lt n 128) refl
+-- the encoding of a number has a byte
+pub encoding_within-some : (more n : ℕ) → 0 < length (encoding_within more n)
+encoding_within-some zero n = omega arith
+encoding_within-some (suc more) n = by_test (nat_lt n 128) refl
   where
-    by_test : (b : Bool) → nat_lt n 128 ≡ b → 0 < length (spelling_within (suc more) n)
+    by_test : (b : Bool) → nat_lt n 128 ≡ b → 0 < length (encoding_within (suc more) n)
     by_test true e = rw e (omega arith)
     by_test false e = rw e (omega arith)
 
-pub spelling-some : (n : ℕ) → 0 < length (spelling n)
-unfolding spelling
-spelling-some n = spelling_within-some 9 n
+pub encoding-some : (n : ℕ) → 0 < length (encoding n)
+unfolding encoding
+encoding-some n = encoding_within-some 9 n
 
 -- the bytes between two parts
 pub part_between : (before body behind : List ℕ) (at : ℕ) → at ≡ length before → part_at (before ++ (body ++ behind)) at (length body) ≡ Ok (body, at + length body)
@@ -64,15 +64,15 @@ part_between before body behind at here =
     let fits : nat_lt (length (before ++ (body ++ behind)) - at) (length body) ≡ false = le-ltb _ _ (omega (arith, length-append before (body ++ behind), length-append body behind)) in
     let seam : drop at (before ++ (body ++ behind)) ≡ body ++ behind = rw here (drop-append_seam before (body ++ behind)) in
     let count : at + length body - at ≡ length body = omega arith in
-    let front : take (length body) (body ++ behind) ≡ body = take-append_seam body behind in
-    rw (fits, seam, count, front) refl
+    let prefix : take (length body) (body ++ behind) ≡ body = take-append_seam body behind in
+    rw (fits, seam, count, prefix) refl
 
 -- the value of a field of bytes, behind its tag
-value_between : (before body behind : List ℕ) → length body < 2 ^ 64 → value_at (before ++ (spelling (length body) ++ (body ++ behind))) 2 (length before)
-    ≡ Ok (text body, length before + length (spelling (length body)) + length body)
+value_between : (before body behind : List ℕ) → length body < 2 ^ 64 → value_at (before ++ (encoding (length body) ++ (body ++ behind))) 2 (length before)
+    ≡ Ok (text body, length before + length (encoding (length body)) + length body)
 unfolding value_at
 value_between before body behind fits =
-    let len = spelling (length body) in
+    let len = encoding (length body) in
     let read = read_between before (body ++ behind) (length body) fits in
     let whole : before ++ (len ++ (body ++ behind)) ≡ (before ++ len) ++ (body ++ behind) = sym (append_assoc before len (body ++ behind)) in
     let part = part_between (before ++ len) body behind (length before + length len) (sym (length-append before len)) in
@@ -93,13 +93,13 @@ field_of_parts bytes at next number v more read some below value =
 pub fields_are_read_again : FieldsAreReadAgain
 unfolding len_text
 fields_are_read_again before body behind number some below fits =
-    let tag = spelling (number * 8 + 2) in
-    let len = spelling (length body) in
+    let tag = encoding (number * 8 + 2) in
+    let len = encoding (length body) in
     let rest = len ++ (body ++ behind) in
     let whole : (before ++ ((tag ++ len) ++ body)) ++ behind ≡ before ++ (tag ++ rest) = simp append_assoc in
     let behind_tag : before ++ (tag ++ rest) ≡ (before ++ tag) ++ rest = sym (append_assoc before tag rest) in
     let place : length before + length tag ≡ length (before ++ tag) = sym (length-append before tag) in
-    let more : length (before ++ (tag ++ rest)) ≢ length before = λ same. absurd (omega (arith, same, length-append before (tag ++ rest), length-append tag rest, spelling-some (number * 8 + 2))) in
+    let more : length (before ++ (tag ++ rest)) ≢ length before = λ same. absurd (omega (arith, same, length-append before (tag ++ rest), length-append tag rest, encoding-some (number * 8 + 2))) in
     let read = read_between before rest (number * 8 + 2) (omega arith) in
     let value : value_at (before ++ (tag ++ rest)) 2 (length before + length tag) ≡ Ok (text body, length (before ++ tag) + length len + length body) =
     rw (behind_tag, place) (value_between (before ++ tag) body behind fits) in

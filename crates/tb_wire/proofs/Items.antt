@@ -2,7 +2,7 @@
 use Rattle.std.proofs.Common.{◌≡◌, ℕ, zero, suc, ◌+◌, ◌-◌, ◌<◌, ◌≤◌, Bool, true, false, if◌then◌else◌, Option, None, Some, IfOk, IfSome, IfNone, Result, Ok, Err, List, [], ◌∷◌, ◌++◌, sum_by, refl, ◌∙◌, arith, append_assoc}
 use Rattle.std.proofs.lemmas.List.Sums.{sum_by-cons}
 use Rattle.tb_wire.specs.declared.varint.Wire.{Wire}
-use Rattle.tb_wire.specs.Items.{◌>>=◌, with_rest, items_from, with_front}
+use Rattle.tb_wire.specs.Items.{◌>>=◌, with_rest, items_from, with_prefix}
 
 -- a place behind `from` and not behind `to`
 abbrev pub IsAfter : ℕ → ℕ → ℕ → Type 0
@@ -19,9 +19,9 @@ IfOk-next P Q (Ok x) f h k = k x h
 IfOk-next P Q (Err e) f h k = tt
 
 -- an item at the front of the rest is the last of those so far
-pub with_front-item : {A : Type 0} (front : List A) (x : A) (left : Result (List A) Wire) → with_front front (left >>= λ rest. Ok (x ∷ rest)) ≡ with_front (front ++ x ∷ []) left
-with_front-item front x (Ok rest) = rw append_assoc refl
-with_front-item front x (Err e) = refl
+pub with_prefix-item : {A : Type 0} (prefix : List A) (x : A) (left : Result (List A) Wire) → with_prefix prefix (left >>= λ rest. Ok (x ∷ rest)) ≡ with_prefix (prefix ++ x ∷ []) left
+with_prefix-item prefix x (Ok rest) = rw append_assoc refl
+with_prefix-item prefix x (Err e) = refl
 
 -- what reads one item from a place before the end of n bytes comes behind that place, and at the end there is none
 module _ {A : Type 0} (read : ℕ → Result (Option (A × ℕ)) Wire) (n : ℕ) (goes_on : (at : ℕ) → at ≤ n → IfOk (read at) (λ found. IfSome found (λ item. IsAfter at n item.1))) (ends : read n ≡ Ok None) where

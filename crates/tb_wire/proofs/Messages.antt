@@ -118,8 +118,8 @@ part_at-len bytes at len h =
     IfOk-either (λ p. p.1 ≤ at + length p.0) (nat_lt (length bytes - at) len) _ _ (λ _. tt)
     (λ e. let fits : len ≤ length bytes - at = ltb-false _ _ e in
     let count : at + len - at ≡ len = omega arith in
-    let front : length (take (at + len - at) (drop at bytes)) ≡ len = rw count (simp (length-take, length-drop) (omega arith)) in
-    omega (arith, front))
+    let prefix : length (take (at + len - at) (drop at bytes)) ≡ len = rw count (simp (length-take, length-drop) (omega arith)) in
+    omega (arith, prefix))
 
 value_at-short : (bytes : List ℕ) (wire_type at : ℕ) → at ≤ length bytes → IfOk (value_at bytes wire_type at) (λ v. v.1 ≤ at + 10 + bytes_of v.0)
 unfolding value_at

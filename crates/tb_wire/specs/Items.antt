@@ -1,12 +1,7 @@
 -- Items that follow one another up to the end of the bytes.
 use Rattle.std.specs.Prelude.{ℕ, zero, suc, Option, None, Some, Result, Ok, Err, List, [], ◌∷◌, ◌++◌}
+pub use Rattle.tb_types.specs.Results.{◌>>=◌}
 use Rattle.tb_wire.specs.declared.varint.Wire.{Wire}
-
--- go on with what was read
-infixl 10 ◌>>=◌
-abbrev pub ◌>>=◌ : {A B : Type 0} → Result A Wire → (A → Result B Wire) → Result B Wire
-(Ok x) >>= f = f x
-(Err e) >>= f = Err e
 
 -- an item, and then what is read from the place behind it on, or nothing at the end
 abbrev pub with_rest : {A : Type 0} → (ℕ → Result (List A) Wire) → Option (A × ℕ) → Result (List A) Wire
@@ -19,6 +14,6 @@ items_from read zero at = Ok []
 items_from read (suc most) at = read at >>= with_rest (items_from read most)
 
 -- items that were read, before what is read of the rest
-abbrev pub with_front : {A : Type 0} → List A → Result (List A) Wire → Result (List A) Wire
-with_front front (Ok rest) = Ok (front ++ rest)
-with_front front (Err e) = Err e
+abbrev pub with_prefix : {A : Type 0} → List A → Result (List A) Wire → Result (List A) Wire
+with_prefix prefix (Ok rest) = Ok (prefix ++ rest)
+with_prefix prefix (Err e) = Err e

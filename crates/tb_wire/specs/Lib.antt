@@ -3,4 +3,3 @@ pub mod Field
 pub mod Items
 pub mod Message
 pub mod Varint
-pub mod Zigzag

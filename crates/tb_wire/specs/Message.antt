@@ -3,7 +3,7 @@ use Rattle.std.specs.Prelude.{ℕ, ◌+◌, ◌-◌, ◌*◌, ◌==◌, if◌the
 use Rattle.tb_wire.specs.declared.varint.Wire.{Wire}
 use Rattle.tb_wire.specs.Field.{Entry, field_at}
 use Rattle.tb_wire.specs.Items.{◌>>=◌, items_from}
-use Rattle.tb_wire.specs.Varint.{varint_at, spelling}
+use Rattle.tb_wire.specs.Varint.{varint_at, encoding}
 
 -- the fields from a place on, or why there is no message: no more than bytes, since each takes at least one
 unfoldable pub message_at : List ℕ → ℕ → Result (List Entry) Wire
@@ -27,4 +27,4 @@ packed bytes = packed_at bytes 0
 
 -- a field whose value is bytes, as it is written
 unfoldable pub len_text : ℕ → List ℕ → List ℕ
-len_text number body = spelling (number * 8 + 2) ++ spelling (length body) ++ body
+len_text number body = encoding (number * 8 + 2) ++ encoding (length body) ++ body

@@ -28,11 +28,11 @@ varint bytes = varint_of 9 bytes
 abbrev pub varint_at : List ℕ → ℕ → Result (ℕ × ℕ) Wire
 varint_at bytes at = counted_from at (varint (drop at bytes))
 
--- The shortest spelling of a number below 2 ^ (7 * more + 7).
-abbrev pub spelling_within : ℕ → ℕ → List ℕ
-spelling_within zero n = n ∷ []
-spelling_within (suc more) n = if nat_lt n 128 then n ∷ [] else (n % 128 + 128) ∷ spelling_within more (n / 128)
+-- The shortest encoding of a number below 2 ^ (7 * more + 7).
+abbrev pub encoding_within : ℕ → ℕ → List ℕ
+encoding_within zero n = n ∷ []
+encoding_within (suc more) n = if nat_lt n 128 then n ∷ [] else (n % 128 + 128) ∷ encoding_within more (n / 128)
 
--- the shortest spelling of a number below 2 ^ 64
-unfoldable pub spelling : ℕ → List ℕ
-spelling n = spelling_within 9 n
+-- the shortest encoding of a number below 2 ^ 64
+unfoldable pub encoding : ℕ → List ℕ
+encoding n = encoding_within 9 n

@@ -1,5 +1,5 @@
 ghost use Rattle.std.specs.Prelude.{◌≡◌, ℕ, ◌+◌, ◌*◌, ◌^◌, ◌≤◌, ◌<◌, ◌++◌, length, vec_len, vec_capacity, OnOk, OnErr};
-ghost use Rattle.tb_wire.specs.Varint.{spelling, spelling_within};
+ghost use Rattle.tb_wire.specs.Varint.{encoding, encoding_within};
 ghost use Rattle.tb_wire.specs.Message.{len_text};
 ghost use Rattle.tb_wire.specs.Again.{VarintsAreReadAgain, FieldsAreReadAgain};
 
@@ -8,10 +8,10 @@ use tb_types::Memory;
 /// The bytes that a varint takes at most.
 const VARINT_BYTES: usize = 10;
 
-/// Appends the shortest spelling of a number. Where that is refused, `out` is as it was.
-#[tactic(auto, unfolding(crate::specs::Varint::spelling))]
+/// Appends the shortest encoding of a number. Where that is refused, `out` is as it was.
+#[tactic(auto, unfolding(crate::specs::Varint::encoding))]
 pub fn put_varint(out: &mut Vec<u8>, v: u64) -> Result<(), Memory>
-    ensures ok { OnOk result (out.new.items ≡ out.old.items ++ spelling v) }
+    ensures ok { OnOk result (out.new.items ≡ out.old.items ++ encoding v) }
     ensures err { OnErr result (out.new.items ≡ out.old.items) }
 {
     out.reserve(VARINT_BYTES)?;
@@ -21,7 +21,7 @@ pub fn put_varint(out: &mut Vec<u8>, v: u64) -> Result<(), Memory>
 
 /// Appends a field whose value is bytes: its tag, their number and they themselves. Where that is refused, `out` is as
 /// it was. A field's number is 1 to 2^29 - 1; another isn't read again.
-#[tactic(auto, unfolding(crate::specs::Varint::spelling, crate::specs::Message::len_text))]
+#[tactic(auto, unfolding(crate::specs::Varint::encoding, crate::specs::Message::len_text))]
 pub fn put_len(out: &mut Vec<u8>, number: u32, body: &[u8]) -> Result<(), Memory>
     ensures ok { OnOk result (out.new.items ≡ out.old.items ++ len_text number body.now) }
     ensures err { OnErr result (out.new.items ≡ out.old.items) }
@@ -33,12 +33,12 @@ pub fn put_len(out: &mut Vec<u8>, number: u32, body: &[u8]) -> Result<(), Memory
     Ok(())
 }
 
-// Appends the shortest spelling of a number that takes at most `more` and one bytes.
+// Appends the shortest encoding of a number that takes at most `more` and one bytes.
 fn put_within(out: &mut Vec<u8>, v: u64, more: usize)
     requires room { vec_len out.old + more < vec_capacity out.old }
     requires few { more ≤ 9 }
     requires small { v < 2 ^ (7 * more + 1) }
-    ensures text { out.new.items ≡ out.old.items ++ spelling_within more v }
+    ensures text { out.new.items ≡ out.old.items ++ encoding_within more v }
     ensures len { vec_len out.new ≤ vec_len out.old + more + 1 }
     ensures capacity { vec_capacity out.new ≡ vec_capacity out.old }
 {

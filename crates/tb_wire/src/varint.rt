@@ -15,7 +15,7 @@ pub enum Wire {
 /// The bytes of a varint after its first one, at most.
 const MORE_BYTES: usize = 9;
 
-/// The varint at the place `at`, and the place after it (Protocol Buffers, "Base 128 Varints"). A longer spelling than
+/// The varint at the place `at`, and the place after it (Protocol Buffers, "Base 128 Varints"). A longer encoding than
 /// needed is read too. `Cut` where the bytes end inside it, `Long` where it passes 64 bits.
 #[tactic(auto, unfolding(crate::specs::Varint::varint))]
 pub fn read_varint(bytes: &[u8], at: usize) -> Result<(u64, usize), Wire>
@@ -23,12 +23,12 @@ pub fn read_varint(bytes: &[u8], at: usize) -> Result<(u64, usize), Wire>
     ensures exact { result ≡ varint_at bytes.now at }
     ensures within { IfOk result (λ found. (at < found.1) × (found.1 ≤ length bytes.now)) }
 {
-    let (value, len) = front(&bytes[at..], MORE_BYTES)?;
+    let (value, len) = first_number(&bytes[at..], MORE_BYTES)?;
     Ok((value, at + len))
 }
 
-// The varint at the front, of at most `more` and one bytes.
-fn front(bytes: &[u8], more: usize) -> Result<(u64, usize), Wire>
+// The varint at the start, of at most `more` and one bytes.
+fn first_number(bytes: &[u8], more: usize) -> Result<(u64, usize), Wire>
     requires { more ≤ 9 }
     ensures exact { result ≡ varint_of more bytes.now }
     ensures small { IfOk result (λ found. found.0 < 2 ^ (7 * more + 1)) }
@@ -48,7 +48,7 @@ fn front(bytes: &[u8], more: usize) -> Result<(u64, usize), Wire>
             if low < 128 {
                 return Ok((low, 1));
             }
-            let (high, len) = front(rest, more - 1)?;
+            let (high, len) = first_number(rest, more - 1)?;
             Ok((low - 128 + 128 * high, len + 1))
         }
     }

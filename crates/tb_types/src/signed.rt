@@ -1,5 +1,5 @@
 ghost use Rattle.std.specs.Prelude.{◌≡◌};
-ghost use Rattle.tb_wire.specs.Zigzag.{zigzag_of, unzigzag_of};
+ghost use Rattle.tb_types.specs.Zigzag.{zigzag_of, unzigzag_of};
 
 /// A signed number as an unsigned one that is small where the signed one is near 0: 0, -1, 1, -2 are 0, 1, 2, 3
 /// (Protocol Buffers, "Signed Integers").
