@@ -1,48 +1,26 @@
 -- Dense nodes with their tags read run by run are those of the definition.
-use Rattle.std.proofs.Common.{◌≡◌, ℕ, ℤ, suc, ◌+◌, ◌<◌, ◌≤◌, ◌==◌, ◌&&◌, min, Bool, true, false, if◌then◌else◌, Option, None, Some, Result, Ok, Err, List, [], ◌∷◌, length, drop, get_or, pos, refl, ap, sym, subst, ◌∙◌, arith}
+use Rattle.std.proofs.Common.{◌≡◌, ℕ, ℤ, suc, ◌+◌, ◌<◌, ◌≤◌, ◌==◌, ◌&&◌, min, Bool, true, false, if◌then◌else◌, Option, Result, Ok, Err, List, [], ◌∷◌, length, drop, get_or, pos, refl, ap, sym, subst, ◌∙◌, arith}
 use Rattle.std.proofs.lemmas.List.{length-drop, drop_more, get_or_default}
 use Rattle.tb_types.specs.declared.damage.Why.{Why}
 use Rattle.tb_types.specs.declared.damage.Why.TheVariants as reasons
 use Rattle.tb_types.specs.declared.element.OsmId.{OsmId}
 use Rattle.tb_types.specs.declared.location.LatLon.{LatLon}
 use Rattle.tb_wire.specs.Field.{Entry}
-use Rattle.osm_elements.specs.declared.grid.Grid.{Grid}
+use Rattle.osm_elements.specs.declared.granularity.Granularity.{Granularity}
 use Rattle.osm_elements.specs.declared.dense.Dense.{Dense}
-use Rattle.osm_elements.specs.Reasons.{◌>>=◌}
+use Rattle.tb_types.specs.Results.{◌>>=◌}
 use Rattle.osm_elements.specs.Fields.{numbers}
-use Rattle.osm_elements.specs.Signed.{low_32}
-use Rattle.osm_elements.specs.Tags.{Tag, with_signed_pair}
-use Rattle.osm_elements.specs.Grid.{next_sum, sums_from, sums, place}
+use Rattle.osm_elements.specs.Tags.{Tag}
+use Rattle.osm_elements.specs.Granularity.{next_sum, sums_from, sums, place}
 use Rattle.osm_elements.specs.Elements.{Element, node, osm_id}
-use Rattle.osm_elements.specs.Dense.{runs, tag_lists, no_tags_for, if_runs, dense_tags, nodes_along, dense_lists, dense_of}
+use Rattle.osm_elements.specs.Dense.{are_runs, first_run, tag_lists, no_tags_for, dense_tags, nodes_along, dense_lists, dense_of}
 use Rattle.osm_elements.specs.Block.{Found, joined}
-use Rattle.osm_elements.specs.Runs.{checked, first_run}
+use Rattle.osm_elements.specs.Runs.{check_of}
 use Rattle.osm_elements.specs.Lists.{lists_in, lists_of, with_node, bare_nodes, tagged_nodes, nodes_of, place_node}
 use Rattle.osm_elements.specs.declared.fault.BlockErr.{BlockErr}
-use Rattle.osm_elements.specs.declared.gathered.Gathered.{Gathered}
-use Rattle.osm_elements.specs.Gathering.{Adds, After, Ends, Grows}
+use Rattle.osm_elements.specs.declared.found.FoundSoFar.{FoundSoFar}
+use Rattle.osm_elements.specs.SoFar.{Adds, After, Ends, Grows}
 use Rattle.osm_elements.proofs.Joins.{Going, going_step, going_err, going_end}
-
--- the tags of a run, and then those of the runs behind it
-abbrev with_run : List (List ℕ) → Option (List Tag × List ℕ) → Result (List (List Tag)) Why
-with_run strings None = Ok []
-with_run strings (Some found) = tag_lists strings [] found.1 >>= λ later. Ok (found.0 ∷ later)
-
-ends_here : (strings : List (List ℕ)) (tags : List Tag) (b : Bool) → (if b then Ok (tags ∷ []) else Err reasons.Uneven) ≡ (if b then Ok (Some (tags, [])) else Err reasons.Uneven) >>= with_run strings
-ends_here strings tags true = refl
-ends_here strings tags false = refl
-
-goes_on : (strings : List (List ℕ)) (tags : List Tag) (v : ℕ) (more : List ℕ) (b : Bool) (pair : Result (List Tag) Why) → ((these : List Tag) → tag_lists strings these more ≡ first_run strings these more >>= with_run strings)
-    → (if b then (tag_lists strings [] (v ∷ more) >>= λ later. Ok (tags ∷ later)) else pair >>= λ these. tag_lists strings these more)
-    ≡ (if b then Ok (Some (tags, v ∷ more)) else pair >>= λ these. first_run strings these more) >>= with_run strings
-goes_on strings tags v more true pair h = refl
-goes_on strings tags v more false (Ok these) h = h these
-goes_on strings tags v more false (Err why) h = refl
-
-tag_lists-run : (strings : List (List ℕ)) (tags : List Tag) (pairs : List ℕ) → tag_lists strings tags pairs ≡ first_run strings tags pairs >>= with_run strings
-tag_lists-run strings tags [] = refl
-tag_lists-run strings tags (k ∷ []) = ends_here strings tags (low_32 k == 0)
-tag_lists-run strings tags (k ∷ v ∷ more) = goes_on strings tags v more (low_32 k == 0) (with_signed_pair strings tags k v) (λ these. tag_lists-run strings these more)
 
 abbrev fine : {A : Type 0} → A → Result A Why
 fine x = Ok x
@@ -51,26 +29,25 @@ ok-is : {A : Type 0} (x y : A) → fine x ≡ fine y → x ≡ y
 ok-is x y h = cc
 
 -- where the runs can be read, nodes take them one by one
-tagged-cons : (strings : List (List ℕ)) (first : List Tag → Element) (along : List (List Tag) → List Element) (others : List ℕ → Result (List Element) Why) (whole : List (List Tag) → List Element)
-    → whole [] ≡ [] → ((t : List Tag) (ts : List (List Tag)) → whole (t ∷ ts) ≡ first t ∷ along ts) → ((pairs : List ℕ) (tags : List (List Tag)) → tag_lists strings [] pairs ≡ Ok tags → Ok (along tags) ≡ others pairs)
-    → (r : Result (Option (List Tag × List ℕ)) Why) (tags : List (List Tag)) → r >>= with_run strings ≡ Ok tags → Ok (whole tags) ≡ r >>= with_node first others
-tagged-cons strings first along others whole none some same (Err why) tags h = cc
-tagged-cons strings first along others whole none some same (Ok None) tags h = ap Ok (sym (ap whole (ok-is [] tags h)) ∙ none)
-tagged-cons strings first along others whole none some same (Ok (Some found)) tags h = go (tag_lists strings [] found.1) refl h
+tagged-cons : (first : List Tag → Element) (coordinate : List (List Tag) → List Element) (lists : List ℕ → Result (List (List Tag)) Why) (others : List ℕ → Result (List Element) Why) (whole : List (List Tag) → List Element)
+    → ((t : List Tag) (ts : List (List Tag)) → whole (t ∷ ts) ≡ first t ∷ coordinate ts) → ((pairs : List ℕ) (tags : List (List Tag)) → lists pairs ≡ Ok tags → Ok (coordinate tags) ≡ others pairs)
+    → (r : Result (List Tag × List ℕ) Why) (tags : List (List Tag)) → r >>= (λ run. lists run.1 >>= λ later. Ok (run.0 ∷ later)) ≡ Ok tags → Ok (whole tags) ≡ r >>= with_node first others
+tagged-cons first coordinate lists others whole some same (Err why) tags h = cc
+tagged-cons first coordinate lists others whole some same (Ok run) tags h = go (lists run.1) refl h
   where
-    go : (s : Result (List (List Tag)) Why) → tag_lists strings [] found.1 ≡ s → s >>= (λ later. Ok (found.0 ∷ later)) ≡ Ok tags → Ok (whole tags) ≡ others found.1 >>= λ later. Ok (first found.0 ∷ later)
+    go : (s : Result (List (List Tag)) Why) → lists run.1 ≡ s → s >>= (λ later. Ok (run.0 ∷ later)) ≡ Ok tags → Ok (whole tags) ≡ others run.1 >>= λ later. Ok (first run.0 ∷ later)
     go (Err why) e k = cc
     go (Ok later) e k =
-        ap Ok (sym (ap whole (ok-is (found.0 ∷ later) tags k)) ∙ some found.0 later) ∙ ap (λ r. r >>= λ xs. Ok (first found.0 ∷ xs)) (same found.1 later e)
+        ap Ok (sym (ap whole (ok-is (run.0 ∷ later) tags k)) ∙ some run.0 later) ∙ ap (λ r. r >>= λ xs. Ok (first run.0 ∷ xs)) (same run.1 later e)
 
-tagged-along : (strings : List (List ℕ)) (grid : Grid) (ids lats lons : List ℤ) (pairs : List ℕ) (tags : List (List Tag)) → tag_lists strings [] pairs ≡ Ok tags
-    → Ok (nodes_along grid ids lats lons tags) ≡ tagged_nodes strings grid ids lats lons pairs
-tagged-along strings grid [] lats lons pairs tags h = refl
-tagged-along strings grid (id ∷ ids) [] lons pairs tags h = refl
-tagged-along strings grid (id ∷ ids) (lat ∷ lats) [] pairs tags h = refl
-tagged-along strings grid (id ∷ ids) (lat ∷ lats) (lon ∷ lons) pairs tags h =
-    tagged-cons strings (node (osm_id id) (place grid lat lon)) (nodes_along grid ids lats lons) (tagged_nodes strings grid ids lats lons) (nodes_along grid (id ∷ ids) (lat ∷ lats) (lon ∷ lons)) refl (λ t ts. refl)
-    (λ behind later e. tagged-along strings grid ids lats lons behind later e) (first_run strings [] pairs) tags (sym (tag_lists-run strings [] pairs) ∙ h)
+tagged-coordinate : (strings : List (List ℕ)) (granularity : Granularity) (ids lats lons : List ℤ) (pairs : List ℕ) (tags : List (List Tag)) → tag_lists strings (length ids) pairs ≡ Ok tags
+    → Ok (nodes_along granularity ids lats lons tags) ≡ tagged_nodes strings granularity ids lats lons pairs
+tagged-coordinate strings granularity [] lats lons pairs tags h = refl
+tagged-coordinate strings granularity (id ∷ ids) [] lons pairs tags h = refl
+tagged-coordinate strings granularity (id ∷ ids) (lat ∷ lats) [] pairs tags h = refl
+tagged-coordinate strings granularity (id ∷ ids) (lat ∷ lats) (lon ∷ lons) pairs tags h =
+    tagged-cons (node (osm_id id) (place granularity lat lon)) (nodes_along granularity ids lats lons) (tag_lists strings (length ids)) (tagged_nodes strings granularity ids lats lons) (nodes_along granularity (id ∷ ids) (lat ∷ lats) (lon ∷ lons))
+    (λ t ts. refl) (λ behind later e. tagged-coordinate strings granularity ids lats lons behind later e) (first_run strings [] pairs) tags h
 
 -- each sum is one of a difference
 sum-more : (r : Result ℤ Why) (d : ℕ) (ds : List ℕ) (ns : List ℤ) → ((n : ℤ) (ms : List ℤ) → sums_from n ds ≡ Ok ms → length ms ≡ length ds)
@@ -87,43 +64,39 @@ sums-length [] before ns h = sym (ap length (ok-is [] ns h))
 sums-length (d ∷ ds) before ns h = sum-more (next_sum before d) d ds ns (λ n ms e. sums-length ds n ms e) h
 
 -- without pairs, no node has tags
-bare-along : (grid : Grid) (ds : List ℕ) (ids lats lons : List ℤ) → length ids ≡ length ds → nodes_along grid ids lats lons (no_tags_for ds) ≡ bare_nodes grid ids lats lons
-bare-along grid ds [] lats lons h = refl
-bare-along grid ds (id ∷ ids) [] lons h = refl
-bare-along grid ds (id ∷ ids) (lat ∷ lats) [] h = refl
-bare-along grid [] (id ∷ ids) (lat ∷ lats) (lon ∷ lons) h = absurd (omega (arith, h))
-bare-along grid (d ∷ ds) (id ∷ ids) (lat ∷ lats) (lon ∷ lons) h = ap (λ xs. node (osm_id id) (place grid lat lon) [] ∷ xs) (bare-along grid ds ids lats lons (omega (arith, h)))
+bare-coordinate : (granularity : Granularity) (ds : List ℕ) (ids lats lons : List ℤ) → length ids ≡ length ds → nodes_along granularity ids lats lons (no_tags_for ds) ≡ bare_nodes granularity ids lats lons
+bare-coordinate granularity ds [] lats lons h = refl
+bare-coordinate granularity ds (id ∷ ids) [] lons h = refl
+bare-coordinate granularity ds (id ∷ ids) (lat ∷ lats) [] h = refl
+bare-coordinate granularity [] (id ∷ ids) (lat ∷ lats) (lon ∷ lons) h = absurd (omega (arith, h))
+bare-coordinate granularity (d ∷ ds) (id ∷ ids) (lat ∷ lats) (lon ∷ lons) h = ap (λ xs. node (osm_id id) (place granularity lat lon) [] ∷ xs) (bare-coordinate granularity ds ids lats lons (omega (arith, h)))
 
-if_runs-ok : (found : Option ℕ) (n : ℕ) (lists : Result (List (List Tag)) Why) (tags : List (List Tag)) → if_runs found n lists ≡ Ok tags → lists ≡ Ok tags
-if_runs-ok None n lists tags h = cc
-if_runs-ok (Some m) n lists tags h = go (m == n) h
-  where
-    go : (b : Bool) → (if b then lists else Err reasons.Uneven) ≡ Ok tags → lists ≡ Ok tags
-    go true k = k
-    go false k = cc
+behind_check : {A : Type 0} (r : Result (Unit {0}) Why) (lists : Result A Why) (tags : A) → r >>= (λ _. lists) ≡ Ok tags → lists ≡ Ok tags
+behind_check (Ok u) lists tags h = h
+behind_check (Err why) lists tags h = cc
 
-with_either : (strings : List (List ℕ)) (grid : Grid) (ds pairs : List ℕ) (ids lats lons : List ℤ) (tags : List (List Tag)) (b : Bool) → length ids ≡ length ds
-    → (if b then Ok (no_tags_for ds) else if_runs (runs pairs) (length ds) (tag_lists strings [] pairs)) ≡ Ok tags
-    → Ok (nodes_along grid ids lats lons tags) ≡ (if b then Ok (bare_nodes grid ids lats lons) else tagged_nodes strings grid ids lats lons pairs)
-with_either strings grid ds pairs ids lats lons tags true same h =
-    ap Ok (ap (nodes_along grid ids lats lons) (sym (ok-is (no_tags_for ds) tags h)) ∙ bare-along grid ds ids lats lons same)
-with_either strings grid ds pairs ids lats lons tags false same h =
-    tagged-along strings grid ids lats lons pairs tags (if_runs-ok (runs pairs) (length ds) (tag_lists strings [] pairs) tags h)
+with_either : (strings : List (List ℕ)) (granularity : Granularity) (ds pairs : List ℕ) (ids lats lons : List ℤ) (tags : List (List Tag)) (b : Bool) → length ids ≡ length ds
+    → (if b then Ok (no_tags_for ds) else are_runs (length ds) pairs >>= λ _. tag_lists strings (length ds) pairs) ≡ Ok tags
+    → Ok (nodes_along granularity ids lats lons tags) ≡ (if b then Ok (bare_nodes granularity ids lats lons) else tagged_nodes strings granularity ids lats lons pairs)
+with_either strings granularity ds pairs ids lats lons tags true same h =
+    ap Ok (ap (nodes_along granularity ids lats lons) (sym (ok-is (no_tags_for ds) tags h)) ∙ bare-coordinate granularity ds ids lats lons same)
+with_either strings granularity ds pairs ids lats lons tags false same h =
+    tagged-coordinate strings granularity ids lats lons pairs tags (subst (λ n. tag_lists strings n pairs ≡ Ok tags) (sym same) (behind_check (are_runs (length ds) pairs) (tag_lists strings (length ds) pairs) tags h))
 
-module _ (strings : List (List ℕ)) (grid : Grid) where
+module _ (strings : List (List ℕ)) (granularity : Granularity) where
   abbrev in_order : List ℤ × List ℤ × List ℤ × List (List Tag) → Result (List Element) Why
-  in_order lists = Ok (nodes_along grid lists.0 lists.1 lists.2 lists.3)
+  in_order lists = Ok (nodes_along granularity lists.0 lists.1 lists.2 lists.3)
 
   sums-same : (ds pairs : List ℕ) (tags : List (List Tag)) (ids lats lons : Result (List ℤ) Why) → dense_tags strings ds pairs ≡ Ok tags → ((ns : List ℤ) → ids ≡ Ok ns → length ns ≡ length ds)
-      → (ids >>= λ ids. lats >>= λ lats. lons >>= λ lons. Ok (ids, lats, lons, tags)) >>= in_order ≡ (ids >>= λ ids. lats >>= λ lats. lons >>= λ lons. Ok (ids, lats, lons, pairs)) >>= nodes_of strings grid
+      → (ids >>= λ ids. lats >>= λ lats. lons >>= λ lons. Ok (ids, lats, lons, tags)) >>= in_order ≡ (ids >>= λ ids. lats >>= λ lats. lons >>= λ lons. Ok (ids, lats, lons, pairs)) >>= nodes_of strings granularity
   sums-same ds pairs tags (Err why) lats lons h k = refl
   sums-same ds pairs tags (Ok ids) (Err why) lons h k = refl
   sums-same ds pairs tags (Ok ids) (Ok lats) (Err why) h k = refl
-  sums-same ds pairs tags (Ok ids) (Ok lats) (Ok lons) h k = with_either strings grid ds pairs ids lats lons tags (length pairs == 0) (k ids refl) h
+  sums-same ds pairs tags (Ok ids) (Ok lats) (Ok lons) h k = with_either strings granularity ds pairs ids lats lons tags (length pairs == 0) (k ids refl) h
 
   tags-same : (ds pairs : List ℕ) (found : Result (List (List Tag)) Why) (ids lats lons : Result (List ℤ) Why) → dense_tags strings ds pairs ≡ found → ((ns : List ℤ) → ids ≡ Ok ns → length ns ≡ length ds)
       → (found >>= λ tags. ids >>= λ ids. lats >>= λ lats. lons >>= λ lons. Ok (ids, lats, lons, tags)) >>= in_order
-      ≡ (checked found >>= λ _. ids >>= λ ids. lats >>= λ lats. lons >>= λ lons. Ok (ids, lats, lons, pairs)) >>= nodes_of strings grid
+      ≡ (check_of found >>= λ _. ids >>= λ ids. lats >>= λ lats. lons >>= λ lons. Ok (ids, lats, lons, pairs)) >>= nodes_of strings granularity
   tags-same ds pairs (Err why) ids lats lons h k = refl
   tags-same ds pairs (Ok tags) ids lats lons h k = sums-same ds pairs tags ids lats lons h k
 
@@ -132,55 +105,55 @@ module _ (strings : List (List ℕ)) (grid : Grid) where
   even-same true p q f g h = h
   even-same false p q f g h = refl
 
-  lists-same : (ds lats lons pairs : List ℕ) → dense_lists strings ds lats lons pairs >>= in_order ≡ lists_of strings ds lats lons pairs >>= nodes_of strings grid
+  lists-same : (ds lats lons pairs : List ℕ) → dense_lists strings ds lats lons pairs >>= in_order ≡ lists_of strings ds lats lons pairs >>= nodes_of strings granularity
   lists-same ds lats lons pairs =
-      even-same ((length ds == length lats) && (length ds == length lons)) _ _ in_order (nodes_of strings grid)
+      even-same ((length ds == length lats) && (length ds == length lons)) _ _ in_order (nodes_of strings granularity)
       (tags-same ds pairs (dense_tags strings ds pairs) (sums ds) (sums lats) (sums lons) refl (λ ns h. sums-length ds (pos 0) ns h))
 
   numbers-same : (ids lats lons pairs : Result (List ℕ) Why) → (ids >>= λ ids. lats >>= λ lats. lons >>= λ lons. pairs >>= λ pairs. dense_lists strings ids lats lons pairs) >>= in_order
-      ≡ (ids >>= λ ids. lats >>= λ lats. lons >>= λ lons. pairs >>= λ pairs. lists_of strings ids lats lons pairs) >>= nodes_of strings grid
+      ≡ (ids >>= λ ids. lats >>= λ lats. lons >>= λ lons. pairs >>= λ pairs. lists_of strings ids lats lons pairs) >>= nodes_of strings granularity
   numbers-same (Err why) lats lons pairs = refl
   numbers-same (Ok ids) (Err why) lons pairs = refl
   numbers-same (Ok ids) (Ok lats) (Err why) pairs = refl
   numbers-same (Ok ids) (Ok lats) (Ok lons) (Err why) = refl
   numbers-same (Ok ids) (Ok lats) (Ok lons) (Ok pairs) = lists-same ids lats lons pairs
 
-pub dense_of_checked : (strings : List (List ℕ)) (grid : Grid) (fields : List Entry) → dense_of strings grid fields ≡ lists_in strings fields >>= nodes_of strings grid
+pub dense_of_checked : (strings : List (List ℕ)) (granularity : Granularity) (fields : List Entry) → dense_of strings granularity fields ≡ lists_in strings fields >>= nodes_of strings granularity
 unfolding dense_of
-dense_of_checked strings grid fields = numbers-same strings grid (numbers 1 fields) (numbers 8 fields) (numbers 9 fields) (numbers 10 fields)
+dense_of_checked strings granularity fields = numbers-same strings granularity (numbers 1 fields) (numbers 8 fields) (numbers 9 fields) (numbers 10 fields)
 
 cons-joined : (x : Element) (r : Found) → r >>= (λ later. Ok (x ∷ later)) ≡ joined (Ok (x ∷ [])) r
 cons-joined x (Ok later) = refl
 cons-joined x (Err why) = refl
 
-no_bare : (grid : Grid) (ids lats lons : List ℤ) → min (min (length ids) (length lats)) (length lons) ≡ 0 → bare_nodes grid ids lats lons ≡ []
-no_bare grid [] lats lons h = refl
-no_bare grid (id ∷ ids) [] lons h = refl
-no_bare grid (id ∷ ids) (lat ∷ lats) [] h = refl
-no_bare grid (id ∷ ids) (lat ∷ lats) (lon ∷ lons) h = absurd (omega (arith, h))
+no_bare : (granularity : Granularity) (ids lats lons : List ℤ) → min (min (length ids) (length lats)) (length lons) ≡ 0 → bare_nodes granularity ids lats lons ≡ []
+no_bare granularity [] lats lons h = refl
+no_bare granularity (id ∷ ids) [] lons h = refl
+no_bare granularity (id ∷ ids) (lat ∷ lats) [] h = refl
+no_bare granularity (id ∷ ids) (lat ∷ lats) (lon ∷ lons) h = absurd (omega (arith, h))
 
-no_tagged : (strings : List (List ℕ)) (grid : Grid) (ids lats lons : List ℤ) (pairs : List ℕ) → min (min (length ids) (length lats)) (length lons) ≡ 0 → tagged_nodes strings grid ids lats lons pairs ≡ Ok []
-no_tagged strings grid [] lats lons pairs h = refl
-no_tagged strings grid (id ∷ ids) [] lons pairs h = refl
-no_tagged strings grid (id ∷ ids) (lat ∷ lats) [] pairs h = refl
-no_tagged strings grid (id ∷ ids) (lat ∷ lats) (lon ∷ lons) pairs h = absurd (omega (arith, h))
+no_tagged : (strings : List (List ℕ)) (granularity : Granularity) (ids lats lons : List ℤ) (pairs : List ℕ) → min (min (length ids) (length lats)) (length lons) ≡ 0 → tagged_nodes strings granularity ids lats lons pairs ≡ Ok []
+no_tagged strings granularity [] lats lons pairs h = refl
+no_tagged strings granularity (id ∷ ids) [] lons pairs h = refl
+no_tagged strings granularity (id ∷ ids) (lat ∷ lats) [] pairs h = refl
+no_tagged strings granularity (id ∷ ids) (lat ∷ lats) (lon ∷ lons) pairs h = absurd (omega (arith, h))
 
 -- the node of what was read at a place
-pub place_read : (grid : Grid) (d : Dense) (i : ℕ) (id lat lon : ℤ) (its_id : OsmId) (at : Option LatLon) (tags : List Tag) → i < length d.ids.items → i < length d.lats.items → i < length d.lons.items
-    → id ≡ get_or d.ids.items i id → lat ≡ get_or d.lats.items i lat → lon ≡ get_or d.lons.items i lon → its_id ≡ osm_id id → at ≡ place grid lat lon → node its_id at tags ≡ place_node grid d i tags
-place_read grid d i id lat lon its_id at tags h k l e f g same_id same_at =
+pub place_read : (granularity : Granularity) (d : Dense) (i : ℕ) (id lat lon : ℤ) (its_id : OsmId) (at : Option LatLon) (tags : List Tag) → i < length d.ids.items → i < length d.lats.items → i < length d.lons.items
+    → id ≡ get_or d.ids.items i id → lat ≡ get_or d.lats.items i lat → lon ≡ get_or d.lons.items i lon → its_id ≡ osm_id id → at ≡ place granularity lat lon → node its_id at tags ≡ place_node granularity d i tags
+place_read granularity d i id lat lon its_id at tags h k l e f g same_id same_at =
     let ids : id ≡ get_or d.ids.items i (pos 0) = e ∙ get_or_default d.ids.items i id (pos 0) h in
     let lats : lat ≡ get_or d.lats.items i (pos 0) = f ∙ get_or_default d.lats.items i lat (pos 0) k in
     let lons : lon ≡ get_or d.lons.items i (pos 0) = g ∙ get_or_default d.lons.items i lon (pos 0) l in
-    ap (λ x. node x at tags) (same_id ∙ ap osm_id ids) ∙ ap (λ x. node (osm_id (get_or d.ids.items i (pos 0))) x tags) (same_at ∙ (ap (λ x. place grid x lon) lats ∙ ap (place grid (get_or d.lats.items i (pos 0))) lons))
+    ap (λ x. node x at tags) (same_id ∙ ap osm_id ids) ∙ ap (λ x. node (osm_id (get_or d.ids.items i (pos 0))) x tags) (same_at ∙ (ap (λ x. place granularity x lon) lats ∙ ap (place granularity (get_or d.lats.items i (pos 0))) lons))
 
 -- Nodes place by place: what is left at a place of the lists.
-module _ (grid : Grid) (d : Dense) (start now : Gathered) (all : Found) where
+module _ (granularity : Granularity) (d : Dense) (start now : FoundSoFar) (all : Found) where
   abbrev pub bare_from : ℕ → List Element
-  bare_from i = bare_nodes grid (drop i d.ids.items) (drop i d.lats.items) (drop i d.lons.items)
+  bare_from i = bare_nodes granularity (drop i d.ids.items) (drop i d.lats.items) (drop i d.lons.items)
 
   abbrev pub tagged_from : List (List ℕ) → ℕ → List ℕ → Found
-  tagged_from strings i pairs = tagged_nodes strings grid (drop i d.ids.items) (drop i d.lats.items) (drop i d.lons.items) pairs
+  tagged_from strings i pairs = tagged_nodes strings granularity (drop i d.ids.items) (drop i d.lats.items) (drop i d.lons.items) pairs
 
   abbrev pub places : ℕ
   places = min (min (length d.ids.items) (length d.lats.items)) (length d.lons.items)
@@ -188,56 +161,52 @@ module _ (grid : Grid) (d : Dense) (start now : Gathered) (all : Found) where
   past : (i : ℕ) → places ≤ i → min (min (length (drop i d.ids.items)) (length (drop i d.lats.items))) (length (drop i d.lons.items)) ≡ 0
   past i h = omega (arith, h, length-drop i d.ids.items, length-drop i d.lats.items, length-drop i d.lons.items)
 
-  bare_next : (i : ℕ) → i < places → bare_from i ≡ place_node grid d i [] ∷ bare_from (i + 1)
+  bare_next : (i : ℕ) → i < places → bare_from i ≡ place_node granularity d i [] ∷ bare_from (i + 1)
   bare_next i h =
-      ap (λ xs. bare_nodes grid xs (drop i d.lats.items) (drop i d.lons.items)) (drop_more d.ids.items i (pos 0) (omega (arith, h)))
-      ∙ (ap (λ xs. bare_nodes grid (get_or d.ids.items i (pos 0) ∷ drop (i + 1) d.ids.items) xs (drop i d.lons.items)) (drop_more d.lats.items i (pos 0) (omega (arith, h)))
-      ∙ ap (λ xs. bare_nodes grid (get_or d.ids.items i (pos 0) ∷ drop (i + 1) d.ids.items) (get_or d.lats.items i (pos 0) ∷ drop (i + 1) d.lats.items) xs) (drop_more d.lons.items i (pos 0) (omega (arith, h))))
+      ap (λ xs. bare_nodes granularity xs (drop i d.lats.items) (drop i d.lons.items)) (drop_more d.ids.items i (pos 0) (omega (arith, h)))
+      ∙ (ap (λ xs. bare_nodes granularity (get_or d.ids.items i (pos 0) ∷ drop (i + 1) d.ids.items) xs (drop i d.lons.items)) (drop_more d.lats.items i (pos 0) (omega (arith, h)))
+      ∙ ap (λ xs. bare_nodes granularity (get_or d.ids.items i (pos 0) ∷ drop (i + 1) d.ids.items) (get_or d.lats.items i (pos 0) ∷ drop (i + 1) d.lats.items) xs) (drop_more d.lons.items i (pos 0) (omega (arith, h))))
 
-  tagged_next : (strings : List (List ℕ)) (i : ℕ) (pairs : List ℕ) → i < places → tagged_from strings i pairs ≡ first_run strings [] pairs >>= with_node (place_node grid d i) (tagged_from strings (i + 1))
+  tagged_next : (strings : List (List ℕ)) (i : ℕ) (pairs : List ℕ) → i < places → tagged_from strings i pairs ≡ first_run strings [] pairs >>= with_node (place_node granularity d i) (tagged_from strings (i + 1))
   tagged_next strings i pairs h =
-      ap (λ xs. tagged_nodes strings grid xs (drop i d.lats.items) (drop i d.lons.items) pairs) (drop_more d.ids.items i (pos 0) (omega (arith, h)))
-      ∙ (ap (λ xs. tagged_nodes strings grid (get_or d.ids.items i (pos 0) ∷ drop (i + 1) d.ids.items) xs (drop i d.lons.items) pairs) (drop_more d.lats.items i (pos 0) (omega (arith, h)))
-      ∙ ap (λ xs. tagged_nodes strings grid (get_or d.ids.items i (pos 0) ∷ drop (i + 1) d.ids.items) (get_or d.lats.items i (pos 0) ∷ drop (i + 1) d.lats.items) xs pairs) (drop_more d.lons.items i (pos 0) (omega (arith, h))))
+      ap (λ xs. tagged_nodes strings granularity xs (drop i d.lats.items) (drop i d.lons.items) pairs) (drop_more d.ids.items i (pos 0) (omega (arith, h)))
+      ∙ (ap (λ xs. tagged_nodes strings granularity (get_or d.ids.items i (pos 0) ∷ drop (i + 1) d.ids.items) xs (drop i d.lons.items) pairs) (drop_more d.lats.items i (pos 0) (omega (arith, h)))
+      ∙ ap (λ xs. tagged_nodes strings granularity (get_or d.ids.items i (pos 0) ∷ drop (i + 1) d.ids.items) (get_or d.lats.items i (pos 0) ∷ drop (i + 1) d.lats.items) xs pairs) (drop_more d.lons.items i (pos 0) (omega (arith, h))))
 
-  pub bare_read : (next : Gathered) (i : ℕ) → i < places → Going start now (Ok (bare_from i)) all → Grows now next (Ok (place_node grid d i [] ∷ [])) → Going start next (Ok (bare_from (i + 1))) all
+  pub bare_read : (next : FoundSoFar) (i : ℕ) → i < places → Going start now (Ok (bare_from i)) all → Grows now next (Ok (place_node granularity d i [] ∷ [])) → Going start next (Ok (bare_from (i + 1))) all
   bare_read next i h going grows =
-      going_step start now next (Ok (place_node grid d i [] ∷ [])) (Ok (bare_from (i + 1))) all (subst (λ x. Going start now (Ok x) all) (bare_next i h) going) grows
+      going_step start now next (Ok (place_node granularity d i [] ∷ [])) (Ok (bare_from (i + 1))) all (subst (λ x. Going start now (Ok x) all) (bare_next i h) going) grows
 
-  pub bare_stops : (e : BlockErr) (i : ℕ) → i < places → Going start now (Ok (bare_from i)) all → Ends now e (Ok (place_node grid d i [] ∷ [])) → Ends start e all
+  pub bare_stops : (e : BlockErr) (i : ℕ) → i < places → Going start now (Ok (bare_from i)) all → Ends now e (Ok (place_node granularity d i [] ∷ [])) → Ends start e all
   bare_stops e i h going ends =
-      going_err start now e (Ok (place_node grid d i [] ∷ [])) (Ok (bare_from (i + 1))) all (subst (λ x. Going start now (Ok x) all) (bare_next i h) going) ends
+      going_err start now e (Ok (place_node granularity d i [] ∷ [])) (Ok (bare_from (i + 1))) all (subst (λ x. Going start now (Ok x) all) (bare_next i h) going) ends
 
   pub bare_end : (i : ℕ) → places ≤ i → Going start now (Ok (bare_from i)) all → Grows start now all
   bare_end i h going =
-      going_end start now all (subst (λ x. Going start now (Ok x) all) (no_bare grid (drop i d.ids.items) (drop i d.lats.items) (drop i d.lons.items) (past i h)) going)
+      going_end start now all (subst (λ x. Going start now (Ok x) all) (no_bare granularity (drop i d.ids.items) (drop i d.lats.items) (drop i d.lons.items) (past i h)) going)
 
-  tagged_one : (strings : List (List ℕ)) (i : ℕ) (pairs : List ℕ) (t : List Tag) (behind : List ℕ) → i < places → first_run strings [] pairs ≡ Ok (Some (t, behind))
-      → tagged_from strings i pairs ≡ joined (Ok (place_node grid d i t ∷ [])) (tagged_from strings (i + 1) behind)
+  tagged_one : (strings : List (List ℕ)) (i : ℕ) (pairs : List ℕ) (t : List Tag) (behind : List ℕ) → i < places → first_run strings [] pairs ≡ Ok (t, behind)
+      → tagged_from strings i pairs ≡ joined (Ok (place_node granularity d i t ∷ [])) (tagged_from strings (i + 1) behind)
   tagged_one strings i pairs t behind h read =
       tagged_next strings i pairs h
-      ∙ (ap (λ r. r >>= with_node (place_node grid d i) (tagged_from strings (i + 1))) read ∙ cons-joined (place_node grid d i t) (tagged_from strings (i + 1) behind))
+      ∙ (ap (λ r. r >>= with_node (place_node granularity d i) (tagged_from strings (i + 1))) read ∙ cons-joined (place_node granularity d i t) (tagged_from strings (i + 1) behind))
 
-  pub tagged_read : (strings : List (List ℕ)) (next : Gathered) (i : ℕ) (pairs : List ℕ) (t : List Tag) (behind : List ℕ) → i < places → first_run strings [] pairs ≡ Ok (Some (t, behind))
-      → Going start now (tagged_from strings i pairs) all → Grows now next (Ok (place_node grid d i t ∷ [])) → Going start next (tagged_from strings (i + 1) behind) all
+  pub tagged_read : (strings : List (List ℕ)) (next : FoundSoFar) (i : ℕ) (pairs : List ℕ) (t : List Tag) (behind : List ℕ) → i < places → first_run strings [] pairs ≡ Ok (t, behind)
+      → Going start now (tagged_from strings i pairs) all → Grows now next (Ok (place_node granularity d i t ∷ [])) → Going start next (tagged_from strings (i + 1) behind) all
   tagged_read strings next i pairs t behind h read going grows =
-      going_step start now next (Ok (place_node grid d i t ∷ [])) (tagged_from strings (i + 1) behind) all (subst (λ x. Going start now x all) (tagged_one strings i pairs t behind h read) going) grows
+      going_step start now next (Ok (place_node granularity d i t ∷ [])) (tagged_from strings (i + 1) behind) all (subst (λ x. Going start now x all) (tagged_one strings i pairs t behind h read) going) grows
 
-  pub tagged_stops : (strings : List (List ℕ)) (e : BlockErr) (i : ℕ) (pairs : List ℕ) (t : List Tag) (behind : List ℕ) → i < places → first_run strings [] pairs ≡ Ok (Some (t, behind))
-      → Going start now (tagged_from strings i pairs) all → Ends now e (Ok (place_node grid d i t ∷ [])) → Ends start e all
+  pub tagged_stops : (strings : List (List ℕ)) (e : BlockErr) (i : ℕ) (pairs : List ℕ) (t : List Tag) (behind : List ℕ) → i < places → first_run strings [] pairs ≡ Ok (t, behind)
+      → Going start now (tagged_from strings i pairs) all → Ends now e (Ok (place_node granularity d i t ∷ [])) → Ends start e all
   tagged_stops strings e i pairs t behind h read going ends =
-      going_err start now e (Ok (place_node grid d i t ∷ [])) (tagged_from strings (i + 1) behind) all (subst (λ x. Going start now x all) (tagged_one strings i pairs t behind h read) going) ends
+      going_err start now e (Ok (place_node granularity d i t ∷ [])) (tagged_from strings (i + 1) behind) all (subst (λ x. Going start now x all) (tagged_one strings i pairs t behind h read) going) ends
 
   pub tagged_end : (strings : List (List ℕ)) (i : ℕ) (pairs : List ℕ) → places ≤ i → Going start now (tagged_from strings i pairs) all → Grows start now all
   tagged_end strings i pairs h going =
-      going_end start now all (subst (λ x. Going start now x all) (no_tagged strings grid (drop i d.ids.items) (drop i d.lats.items) (drop i d.lons.items) pairs (past i h)) going)
+      going_end start now all (subst (λ x. Going start now x all) (no_tagged strings granularity (drop i d.ids.items) (drop i d.lats.items) (drop i d.lons.items) pairs (past i h)) going)
 
-  pub tagged_no_run : (strings : List (List ℕ)) (i : ℕ) (pairs : List ℕ) → i < places → first_run strings [] pairs ≡ Ok None → Going start now (tagged_from strings i pairs) all → Grows start now all
-  tagged_no_run strings i pairs h read going =
-      going_end start now all (subst (λ x. Going start now x all) (tagged_next strings i pairs h ∙ ap (λ r. r >>= with_node (place_node grid d i) (tagged_from strings (i + 1))) read) going)
-
-  pub tagged_refused : {X : Type 0} (strings : List (List ℕ)) (new : Gathered) (r : Result X BlockErr) (i : ℕ) (pairs : List ℕ) (why : Why) → i < places → first_run strings [] pairs ≡ Err why
+  pub tagged_refused : {X : Type 0} (strings : List (List ℕ)) (new : FoundSoFar) (r : Result X BlockErr) (i : ℕ) (pairs : List ℕ) (why : Why) → i < places → first_run strings [] pairs ≡ Err why
       → Going start now (tagged_from strings i pairs) all → Adds now new r (Err why) → Adds start new r all
   tagged_refused strings new r i pairs why h read going adds so_far held =
-      let before = subst (λ x. Going start now x all) (tagged_next strings i pairs h ∙ ap (λ r. r >>= with_node (place_node grid d i) (tagged_from strings (i + 1))) read) going so_far held in
+      let before = subst (λ x. Going start now x all) (tagged_next strings i pairs h ∙ ap (λ r. r >>= with_node (place_node granularity d i) (tagged_from strings (i + 1))) read) going so_far held in
       subst (After new r) before.1.1 (adds before.0 before.1.0)

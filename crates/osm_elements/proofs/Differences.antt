@@ -2,26 +2,26 @@
 use Rattle.std.proofs.Common.{◌≡◌, ℕ, ℤ, min, ◌+◌, ◌<◌, ◌≤◌, Result, Ok, Err, List, [], ◌∷◌, ◌++◌, length, drop, get_or, refl, ap, sym, ◌∙◌, arith}
 use Rattle.std.proofs.lemmas.List.{drop_more, append-nil, length-drop}
 use Rattle.tb_types.specs.declared.damage.Why.{Why}
-use Rattle.osm_elements.specs.Reasons.{◌>>=◌}
+use Rattle.tb_types.specs.Results.{◌>>=◌}
 use Rattle.osm_elements.specs.Fields.{with_found}
 use Rattle.tb_types.specs.declared.element.Kind.{Kind}
 use Rattle.osm_elements.specs.declared.element.Member.{Member}
-use Rattle.osm_elements.specs.Grid.{next_sum, sums_from}
+use Rattle.osm_elements.specs.Granularity.{next_sum, sums_from}
 use Rattle.osm_elements.specs.Elements.{kind_of, member_of, members_of, osm_id}
-use Rattle.osm_elements.proofs.Fronts.{with_found-item}
+use Rattle.osm_elements.proofs.Prefixes.{with_found-item}
 
 -- a sum joins those before it, or is out of range
-pub sum_read : (ds : List ℕ) (i : ℕ) (sum next : ℤ) (front : List ℤ) (total : Result (List ℤ) Why) → i < length ds → next_sum sum (get_or ds i 0) ≡ Ok next
-    → with_found front (sums_from sum (drop i ds)) ≡ total → with_found (front ++ next ∷ []) (sums_from next (drop (i + 1) ds)) ≡ total
-sum_read ds i sum next front total h step told =
-    sym (with_found-item front next (sums_from next (drop (i + 1) ds)))
-    ∙ (sym (ap (λ r. with_found front (r >>= λ n. sums_from n (drop (i + 1) ds) >>= λ later. Ok (n ∷ later))) step)
-    ∙ (sym (ap (λ xs. with_found front (sums_from sum xs)) (drop_more ds i 0 h)) ∙ told))
+pub sum_read : (ds : List ℕ) (i : ℕ) (sum next : ℤ) (prefix : List ℤ) (total : Result (List ℤ) Why) → i < length ds → next_sum sum (get_or ds i 0) ≡ Ok next
+    → with_found prefix (sums_from sum (drop i ds)) ≡ total → with_found (prefix ++ next ∷ []) (sums_from next (drop (i + 1) ds)) ≡ total
+sum_read ds i sum next prefix total h step told =
+    sym (with_found-item prefix next (sums_from next (drop (i + 1) ds)))
+    ∙ (sym (ap (λ r. with_found prefix (r >>= λ n. sums_from n (drop (i + 1) ds) >>= λ later. Ok (n ∷ later))) step)
+    ∙ (sym (ap (λ xs. with_found prefix (sums_from sum xs)) (drop_more ds i 0 h)) ∙ told))
 
-pub sum_stops : (ds : List ℕ) (i : ℕ) (sum : ℤ) (front : List ℤ) (why : Why) (total : Result (List ℤ) Why) → i < length ds → next_sum sum (get_or ds i 0) ≡ Err why
-    → with_found front (sums_from sum (drop i ds)) ≡ total → total ≡ Err why
-sum_stops ds i sum front why total h step told =
-    sym told ∙ (ap (λ xs. with_found front (sums_from sum xs)) (drop_more ds i 0 h) ∙ ap (λ r. with_found front (r >>= λ n. sums_from n (drop (i + 1) ds) >>= λ later. Ok (n ∷ later))) step)
+pub sum_stops : (ds : List ℕ) (i : ℕ) (sum : ℤ) (prefix : List ℤ) (why : Why) (total : Result (List ℤ) Why) → i < length ds → next_sum sum (get_or ds i 0) ≡ Err why
+    → with_found prefix (sums_from sum (drop i ds)) ≡ total → total ≡ Err why
+sum_stops ds i sum prefix why total h step told =
+    sym told ∙ (ap (λ xs. with_found prefix (sums_from sum xs)) (drop_more ds i 0 h) ∙ ap (λ r. with_found prefix (r >>= λ n. sums_from n (drop (i + 1) ds) >>= λ later. Ok (n ∷ later))) step)
 
 pub member_kind : (id : ℤ) (k : ℕ) (r : Result Kind Why) → kind_of k ≡ r → member_of id k ≡ r >>= λ kind. Ok (record { kind = kind; id = osm_id id })
 member_kind id k r h = ap (λ r. r >>= λ kind. Ok (record { kind = kind; id = osm_id id })) h
@@ -31,27 +31,27 @@ members_next : (ids : List ℤ) (kinds : List ℕ) (i : ℕ) (d : ℤ) → i < l
 members_next ids kinds i d h k =
     ap (λ xs. members_of xs (drop i kinds)) (drop_more ids i d h) ∙ ap (λ ys. members_of (get_or ids i d ∷ drop (i + 1) ids) ys) (drop_more kinds i 0 k)
 
-pub member_read : (ids : List ℤ) (kinds : List ℕ) (i : ℕ) (d : ℤ) (front : List Member) (m : Member) (total : Result (List Member) Why) → i < length ids → i < length kinds
+pub member_read : (ids : List ℤ) (kinds : List ℕ) (i : ℕ) (d : ℤ) (prefix : List Member) (m : Member) (total : Result (List Member) Why) → i < length ids → i < length kinds
     → member_of (get_or ids i d) (get_or kinds i 0) ≡ Ok m
-    → with_found front (members_of (drop i ids) (drop i kinds)) ≡ total → with_found (front ++ m ∷ []) (members_of (drop (i + 1) ids) (drop (i + 1) kinds)) ≡ total
-member_read ids kinds i d front m total h k step told =
-    sym (with_found-item front m (members_of (drop (i + 1) ids) (drop (i + 1) kinds)))
-    ∙ (sym (ap (λ r. with_found front (r >>= λ m. members_of (drop (i + 1) ids) (drop (i + 1) kinds) >>= λ later. Ok (m ∷ later))) step)
-    ∙ (sym (ap (with_found front) (members_next ids kinds i d h k)) ∙ told))
+    → with_found prefix (members_of (drop i ids) (drop i kinds)) ≡ total → with_found (prefix ++ m ∷ []) (members_of (drop (i + 1) ids) (drop (i + 1) kinds)) ≡ total
+member_read ids kinds i d prefix m total h k step told =
+    sym (with_found-item prefix m (members_of (drop (i + 1) ids) (drop (i + 1) kinds)))
+    ∙ (sym (ap (λ r. with_found prefix (r >>= λ m. members_of (drop (i + 1) ids) (drop (i + 1) kinds) >>= λ later. Ok (m ∷ later))) step)
+    ∙ (sym (ap (with_found prefix) (members_next ids kinds i d h k)) ∙ told))
 
-pub member_stops : (ids : List ℤ) (kinds : List ℕ) (i : ℕ) (d : ℤ) (front : List Member) (why : Why) (total : Result (List Member) Why) → i < length ids → i < length kinds
+pub member_stops : (ids : List ℤ) (kinds : List ℕ) (i : ℕ) (d : ℤ) (prefix : List Member) (why : Why) (total : Result (List Member) Why) → i < length ids → i < length kinds
     → member_of (get_or ids i d) (get_or kinds i 0) ≡ Err why
-    → with_found front (members_of (drop i ids) (drop i kinds)) ≡ total → total ≡ Err why
-member_stops ids kinds i d front why total h k step told =
-    sym told ∙ (ap (with_found front) (members_next ids kinds i d h k) ∙ ap (λ r. with_found front (r >>= λ m. members_of (drop (i + 1) ids) (drop (i + 1) kinds) >>= λ later. Ok (m ∷ later))) step)
+    → with_found prefix (members_of (drop i ids) (drop i kinds)) ≡ total → total ≡ Err why
+member_stops ids kinds i d prefix why total h k step told =
+    sym told ∙ (ap (with_found prefix) (members_next ids kinds i d h k) ∙ ap (λ r. with_found prefix (r >>= λ m. members_of (drop (i + 1) ids) (drop (i + 1) kinds) >>= λ later. Ok (m ∷ later))) step)
 
 no_members : (ids : List ℤ) (kinds : List ℕ) → min (length ids) (length kinds) ≡ 0 → members_of ids kinds ≡ Ok []
 no_members [] kinds h = refl
 no_members (id ∷ ids) [] h = refl
 no_members (id ∷ ids) (k ∷ kinds) h = absurd (omega (arith, h))
 
-pub all_members : (ids : List ℤ) (kinds : List ℕ) (i : ℕ) (front : List Member) (total : Result (List Member) Why) → min (length ids) (length kinds) ≤ i
-    → with_found front (members_of (drop i ids) (drop i kinds)) ≡ total → total ≡ Ok front
-all_members ids kinds i front total h told =
+pub all_members : (ids : List ℤ) (kinds : List ℕ) (i : ℕ) (prefix : List Member) (total : Result (List Member) Why) → min (length ids) (length kinds) ≤ i
+    → with_found prefix (members_of (drop i ids) (drop i kinds)) ≡ total → total ≡ Ok prefix
+all_members ids kinds i prefix total h told =
     let none : min (length (drop i ids)) (length (drop i kinds)) ≡ 0 = omega (arith, length-drop i ids, length-drop i kinds) in
-    sym told ∙ (ap (with_found front) (no_members (drop i ids) (drop i kinds) none) ∙ ap Ok (append-nil front))
+    sym told ∙ (ap (with_found prefix) (no_members (drop i ids) (drop i kinds) none) ∙ ap Ok (append-nil prefix))

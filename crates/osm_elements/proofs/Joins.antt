@@ -8,16 +8,11 @@ use Rattle.tb_types.specs.declared.damage.Why.{Why}
 use Rattle.tb_types.specs.declared.damage.Why.TheVariants as reasons
 use Rattle.osm_elements.specs.declared.fault.BlockErr.{BlockErr}
 use Rattle.osm_elements.specs.declared.fault.BlockErr.TheVariants as faults
-use Rattle.osm_elements.specs.declared.gathered.Gathered.{Gathered}
-use Rattle.tb_wire.specs.Field.{Entry}
-use Rattle.osm_elements.specs.Reasons.{◌>>=◌, rank, first, IsStop}
-use Rattle.osm_elements.specs.Fields.{fields_of, bodies}
-use Rattle.osm_elements.specs.declared.grid.Grid.{Grid}
-use Rattle.osm_elements.specs.Grid.{grid_of}
-use Rattle.osm_elements.specs.Tags.{strings_of}
+use Rattle.osm_elements.specs.declared.found.FoundSoFar.{FoundSoFar}
+use Rattle.osm_elements.specs.Reasons.{rank, first, IsStop}
 use Rattle.osm_elements.specs.Elements.{Element}
-use Rattle.osm_elements.specs.Block.{Found, joined, every, groups_in, unit_checked, elements_of, numbered, as_node, as_way, as_relation}
-use Rattle.osm_elements.specs.Gathering.{Holds, Adds, After, Ended, Ends, Grows}
+use Rattle.osm_elements.specs.Block.{Found, joined, every, numbered, as_node, as_way, as_relation}
+use Rattle.osm_elements.specs.SoFar.{Holds, Adds, After, Ended, Ends, Grows}
 
 first-assoc : (u v w : Why) → first (first u v) w ≡ first u (first v w)
 first-assoc u v w = go (nat_lt (rank v) (rank u)) (nat_lt (rank w) (rank v)) refl refl
@@ -79,32 +74,32 @@ pub numbered-last : {A : Type 0} (kind : ℕ → Element → List A) (xs : List 
 numbered-last kind xs x = let e : 0 + length xs ≡ length xs = omega arith in rw e at (numbered-item kind 0 xs x)
 
 -- What holds after one more element: each list has it where it is of its kind.
-pub one_more : (old new : Gathered) (x : Element) → new.why ≡ old.why → new.count ≡ old.count + 1
+pub one_more : (old new : FoundSoFar) (x : Element) → new.why ≡ old.why → new.count ≡ old.count + 1
     → new.nodes.items ≡ old.nodes.items ++ as_node old.count x → new.ways.items ≡ old.ways.items ++ as_way old.count x → new.relations.items ≡ old.relations.items ++ as_relation old.count x
     → (so_far : Found) → Holds old so_far → Holds new (joined so_far (Ok (x ∷ [])))
 one_more old new x why count nodes ways relations (Err w) h = why ∙ h
 one_more old new x why count nodes ways relations (Ok xs) h = (
   why ∙ h.0,
   omega (arith, count, h.1, length-append xs (x ∷ [])),
-  nodes ∙ (ap (λ n. old.nodes.items ++ as_node n x) h.1 ∙ (ap (λ front. front ++ as_node (length xs) x) h.2 ∙ sym (numbered-last as_node xs x))),
-  ways ∙ (ap (λ n. old.ways.items ++ as_way n x) h.1 ∙ (ap (λ front. front ++ as_way (length xs) x) h.3 ∙ sym (numbered-last as_way xs x))),
-  relations ∙ (ap (λ n. old.relations.items ++ as_relation n x) h.1 ∙ (ap (λ front. front ++ as_relation (length xs) x) h.4 ∙ sym (numbered-last as_relation xs x))),
+  nodes ∙ (ap (λ n. old.nodes.items ++ as_node n x) h.1 ∙ (ap (λ prefix. prefix ++ as_node (length xs) x) h.2 ∙ sym (numbered-last as_node xs x))),
+  ways ∙ (ap (λ n. old.ways.items ++ as_way n x) h.1 ∙ (ap (λ prefix. prefix ++ as_way (length xs) x) h.3 ∙ sym (numbered-last as_way xs x))),
+  relations ∙ (ap (λ n. old.relations.items ++ as_relation n x) h.1 ∙ (ap (λ prefix. prefix ++ as_relation (length xs) x) h.4 ∙ sym (numbered-last as_relation xs x))),
 )
 
 -- what holds after a reason
-pub refused : (old new : Gathered) (why : Why) → (old.why ≡ None → new.why ≡ Some why) → ((before : Why) → old.why ≡ Some before → new.why ≡ Some (first before why))
+pub refused : (old new : FoundSoFar) (why : Why) → (old.why ≡ None → new.why ≡ Some why) → ((before : Why) → old.why ≡ Some before → new.why ≡ Some (first before why))
     → (so_far : Found) → Holds old so_far → Holds new (joined so_far (Err why))
 refused old new why k l (Ok xs) h = k h.0
 refused old new why k l (Err before) h = l before h
 
 -- On the way: with what is left to add, what is held gives all that is to be added to what was held at the start.
-abbrev pub Going : Gathered → Gathered → Found → Found → Type 0
+abbrev pub Going : FoundSoFar → FoundSoFar → Found → Found → Type 0
 Going start now left all = (so_far : Found) → Holds start so_far → (m : Found) × (Holds now m × (joined m left ≡ joined so_far all))
 
-pub going_start : (g : Gathered) (all : Found) → Going g g all all
+pub going_start : (g : FoundSoFar) (all : Found) → Going g g all all
 going_start g all so_far h = (so_far, (h, refl))
 
-pub going_step : (start now next : Gathered) (part rest all : Found) → Going start now (joined part rest) all → Grows now next part → Going start next rest all
+pub going_step : (start now next : FoundSoFar) (part rest all : Found) → Going start now (joined part rest) all → Grows now next part → Going start next rest all
 going_step start now next part rest all going adds so_far h =
     let before = going so_far h in
     (joined before.0 part, (adds before.0 before.1.0, joined-assoc before.0 part rest ∙ before.1.1))
@@ -113,58 +108,47 @@ ended : (e : BlockErr) (m part rest whole : Found) → joined m (joined part res
 ended (faults.Bad why) m part rest whole same h = (h.0, sym same ∙ (sym (joined-assoc m part rest) ∙ (ap (λ x. joined x rest) h.1 ∙ wire-joined rest)))
 ended faults.Memory m part rest whole same h = tt
 
-pub going_err : (start now : Gathered) (e : BlockErr) (part rest all : Found) → Going start now (joined part rest) all → Ends now e part → Ends start e all
+pub going_err : (start now : FoundSoFar) (e : BlockErr) (part rest all : Found) → Going start now (joined part rest) all → Ends now e part → Ends start e all
 going_err start now e part rest all going adds so_far h =
     let before = going so_far h in
     ended e before.0 part rest (joined so_far all) before.1.1 (adds before.0 before.1.0)
 
-pub going_end : (start now : Gathered) (all : Found) → Going start now (Ok []) all → Grows start now all
+pub going_end : (start now : FoundSoFar) (all : Found) → Going start now (Ok []) all → Grows start now all
 going_end start now all going so_far h =
     let before = going so_far h in
     subst (Holds now) (sym (joined-none before.0) ∙ before.1.1) before.1.0
 
 -- what the last call adds is all that was left
-pub going_last : (start now next : Gathered) (part all : Found) → Going start now part all → Grows now next part → Grows start next all
+pub going_last : (start now next : FoundSoFar) (part all : Found) → Going start now part all → Grows now next part → Grows start next all
 going_last start now next part all going adds so_far h =
     let before = going so_far h in subst (Holds next) before.1.1 (adds before.0 before.1.0)
 
-pub going_last_err : (start now : Gathered) (e : BlockErr) (part all : Found) → Going start now part all → Ends now e part → Ends start e all
+pub going_last_err : (start now : FoundSoFar) (e : BlockErr) (part all : Found) → Going start now part all → Ends now e part → Ends start e all
 going_last_err start now e part all going adds so_far h =
     let before = going so_far h in subst (Ended e) before.1.1 (adds before.0 before.1.0)
 
 -- what `?` hands on is the error of the call
-pub ended_on : {X : Type 0} (old new : Gathered) (r : Result X BlockErr) (e : BlockErr) (part : Found) → IsErrAnd r (λ x. x ≡ e) → Ends old e part → Adds old new r part
+pub ended_on : {X : Type 0} (old new : FoundSoFar) (r : Result X BlockErr) (e : BlockErr) (part : Found) → IsErrAnd r (λ x. x ≡ e) → Ends old e part → Adds old new r part
 ended_on old new (Ok x) e part h k = absurd h
 ended_on old new (Err x) e part h k = subst (λ (y : BlockErr). Ends old y part) (sym h) k
 
 -- the messages of a list, one after another
-module _ (read : List ℕ → Found) (bodies : List (Bor (List ℕ))) (start : Gathered) where
-  pub body_read : (i : ℕ) (d : Bor (List ℕ)) (now next : Gathered) (all : Found) → i < length bodies → Going start now (every read (map (λ b. b.now) (drop i bodies))) all
+module _ (read : List ℕ → Found) (bodies : List (Bor (List ℕ))) (start : FoundSoFar) where
+  pub body_read : (i : ℕ) (d : Bor (List ℕ)) (now next : FoundSoFar) (all : Found) → i < length bodies → Going start now (every read (map (λ b. b.now) (drop i bodies))) all
       → Grows now next (read (get_or bodies i d).now) → Going start next (every read (map (λ b. b.now) (drop (i + 1) bodies))) all
   body_read i d now next all h going grows =
       going_step start now next (read (get_or bodies i d).now) (every read (map (λ b. b.now) (drop (i + 1) bodies))) all
       (subst (λ left. Going start now left all) (ap (λ xs. every read (map (λ b. b.now) xs)) (drop_more bodies i d h)) going) grows
 
-  pub body_stops : (i : ℕ) (d : Bor (List ℕ)) (now : Gathered) (e : BlockErr) (all : Found) → i < length bodies → Going start now (every read (map (λ b. b.now) (drop i bodies))) all
+  pub body_stops : (i : ℕ) (d : Bor (List ℕ)) (now : FoundSoFar) (e : BlockErr) (all : Found) → i < length bodies → Going start now (every read (map (λ b. b.now) (drop i bodies))) all
       → Ends now e (read (get_or bodies i d).now) → Ends start e all
   body_stops i d now e all h going ends =
       going_err start now e (read (get_or bodies i d).now) (every read (map (λ b. b.now) (drop (i + 1) bodies))) all
       (subst (λ left. Going start now left all) (ap (λ xs. every read (map (λ b. b.now) xs)) (drop_more bodies i d h)) going) ends
 
-  pub bodies_end : (i : ℕ) (now : Gathered) (all : Found) → length bodies ≤ i → Going start now (every read (map (λ b. b.now) (drop i bodies))) all → Grows start now all
+  pub bodies_end : (i : ℕ) (now : FoundSoFar) (all : Found) → length bodies ≤ i → Going start now (every read (map (λ b. b.now) (drop i bodies))) all → Grows start now all
   bodies_end i now all h going =
       going_end start now all (subst (λ left. Going start now left all) (at_drop_all (λ xs. every read (map (λ b. b.now) xs)) bodies i h) going)
-
--- the elements of a block, step by step
-pub elements_from : (raw : List ℕ) (fields : List Entry) (strings : List (List ℕ)) (grid : Grid) (groups : List (List ℕ)) → fields_of raw ≡ Ok fields → strings_of fields ≡ Ok strings → grid_of fields ≡ Ok grid
-    → bodies 2 fields ≡ Ok groups → elements_of raw ≡ joined (joined (Ok []) (groups_in strings grid groups)) (unit_checked grid)
-unfolding elements_of
-elements_from raw fields strings grid groups a b d e =
-    ap (λ r. r >>= λ fields. strings_of fields >>= λ strings. grid_of fields >>= λ grid. bodies 2 fields >>= λ groups. joined (groups_in strings grid groups) (unit_checked grid)) a
-    ∙ (ap (λ r. r >>= λ strings. grid_of fields >>= λ grid. bodies 2 fields >>= λ groups. joined (groups_in strings grid groups) (unit_checked grid)) b
-    ∙ (ap (λ r. r >>= λ grid. bodies 2 fields >>= λ groups. joined (groups_in strings grid groups) (unit_checked grid)) d
-    ∙ (ap (λ r. r >>= λ groups. joined (groups_in strings grid groups) (unit_checked grid)) e
-    ∙ ap (λ x. joined x (unit_checked grid)) (sym (none-joined (groups_in strings grid groups))))))
 
 pub ended_is_stop : (e : BlockErr) (found : Found) → Ended e found → IsStop e found
 ended_is_stop (faults.Bad why) found h = h.1 ∙ ap Err (sym h.0)
@@ -175,11 +159,11 @@ ended_joined (faults.Bad why) a b h = (h.0, ap (λ x. joined x b) h.1 ∙ wire-j
 ended_joined faults.Memory a b h = tt
 
 -- nothing is added before what is added then
-pub nothing_first : {X : Type 0} (old mid new : Gathered) (r : Result X BlockErr) (more : Found) → Grows old mid (Ok []) → Adds mid new r more → Adds old new r more
+pub nothing_first : {X : Type 0} (old mid new : FoundSoFar) (r : Result X BlockErr) (more : Found) → Grows old mid (Ok []) → Adds mid new r more → Adds old new r more
 nothing_first old mid new r more grows adds so_far h = subst (λ x. After new r (joined x more)) (joined-none so_far) (adds (joined so_far (Ok [])) (grows so_far h))
 
-pub going_after : (start mid : Gathered) (all : Found) → Grows start mid (Ok []) → Going start mid all all
+pub going_after : (start mid : FoundSoFar) (all : Found) → Grows start mid (Ok []) → Going start mid all all
 going_after start mid all grows so_far h = (joined so_far (Ok []), (grows so_far h, ap (λ x. joined x all) (joined-none so_far)))
 
-pub nothing_ends : (start : Gathered) (e : BlockErr) (all : Found) → Ends start e (Ok []) → Ends start e all
+pub nothing_ends : (start : FoundSoFar) (e : BlockErr) (all : Found) → Ends start e (Ok []) → Ends start e all
 nothing_ends start e all ends so_far h = ended e so_far (Ok []) all (joined so_far all) (ap (joined so_far) (none-joined all)) (ends so_far h)

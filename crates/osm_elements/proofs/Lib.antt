@@ -1,8 +1,10 @@
 pub mod DenseNodes
 pub mod Differences
-pub mod Fronts
+pub mod Prefixes
+pub mod Few
 pub mod Joins
 pub mod RunSteps
 pub mod TagLists
 pub mod Walks
-pub mod WorkedBlocks
+pub mod NothingDropped
+pub mod WorkedCases

@@ -7,6 +7,8 @@ use Rattle.std.specs.Borrow.{Bor}
 use Rattle.std.specs.Result.{IsErrAnd}
 use Rattle.tb_types.specs.declared.damage.Why.{Why}
 use Rattle.tb_types.specs.declared.damage.Why.TheVariants as reasons
+use Rattle.tb_types.specs.declared.element.Kind.{Kind}
+use Rattle.tb_types.specs.declared.element.Kind.TheVariants as kinds
 use Rattle.tb_wire.specs.declared.varint.Wire.{Wire}
 use Rattle.tb_wire.specs.declared.field.Field.{Field}
 use Rattle.tb_wire.specs.Field.{Value, Entry, number, eight_bytes, text, four_bytes, entry_of, field_at}
@@ -15,17 +17,18 @@ use Rattle.tb_wire.specs.Message.{message, message_at}
 use Rattle.tb_wire.proofs.Messages.{message_at-step}
 use Rattle.osm_elements.specs.declared.fault.BlockErr.{BlockErr}
 use Rattle.osm_elements.specs.declared.fault.BlockErr.TheVariants as faults
-use Rattle.osm_elements.specs.declared.gathered.Gathered.{Gathered}
-use Rattle.osm_elements.specs.declared.grid.Grid.{Grid}
-use Rattle.osm_elements.specs.Reasons.{◌>>=◌, IsStop}
-use Rattle.osm_elements.specs.Fields.{or_wire, fields_of, one_body, some_fields, if_numbered, all_of, bodies, merged, with_found}
+use Rattle.osm_elements.specs.declared.found.FoundSoFar.{FoundSoFar}
+use Rattle.osm_elements.specs.declared.granularity.Granularity.{Granularity}
+use Rattle.tb_types.specs.Results.{◌>>=◌}
+use Rattle.osm_elements.specs.Reasons.{IsStop}
+use Rattle.osm_elements.specs.Fields.{or_wire, fields_of, one_body, some_fields, if_numbered, all_of, bodies, merged_fields, with_found}
 use Rattle.osm_elements.specs.Tags.{strings_of}
-use Rattle.osm_elements.specs.Elements.{node_of, way_of, relation_of}
+use Rattle.osm_elements.specs.Elements.{element_of, group_field}
 use Rattle.osm_elements.specs.Dense.{dense_of}
-use Rattle.osm_elements.specs.Block.{Found, joined, every, one, nodes_in, ways_in, relations_in, elements_in, group_of}
-use Rattle.osm_elements.specs.Gathering.{Ends, Grows}
-use Rattle.osm_elements.specs.Walks.{IsNext, bodies_at, with_body, each_from, fields_in, merged_in, dense_in, bodies_in}
-use Rattle.osm_elements.proofs.Fronts.{with_found-part, with_found-item}
+use Rattle.osm_elements.specs.Block.{Found, joined, every, one, each_in, elements_in, group_of}
+use Rattle.osm_elements.specs.SoFar.{Ends, Grows}
+use Rattle.osm_elements.specs.Walks.{IsNext, bodies_at, with_body, each_from, fields_in, merged_fields_in, dense_in, bodies_in}
+use Rattle.osm_elements.proofs.Prefixes.{with_found-part, with_found-item}
 use Rattle.osm_elements.proofs.Joins.{Going, going_step, going_err, going_end, going_last, going_last_err, joined-wire, wire-joined}
 
 -- whatever is refused is no message
@@ -70,8 +73,8 @@ fields_in-only : (bs : List (List ℕ)) → OnlyWire (fields_in bs)
 fields_in-only [] = tt
 fields_in-only (b ∷ bs) = only-next (fields_of b) _ (or_wire-only (message b)) (λ these. only-next (fields_in bs) _ (fields_in-only bs) (λ later. tt))
 
-merged_in-only : (n : ℕ) (bytes : List ℕ) → OnlyWire (merged_in n bytes)
-merged_in-only n bytes = only-next (bodies_at n bytes 0) fields_in (bodies_at-only n bytes 0) fields_in-only
+merged_fields_in-only : (n : ℕ) (bytes : List ℕ) → OnlyWire (merged_fields_in n bytes)
+merged_fields_in-only n bytes = only-next (bodies_at n bytes 0) fields_in (bodies_at-only n bytes 0) fields_in-only
 
 cons-wire : {A B : Type 0} (r : Result (List A) Wire) (x : A) (g : List A → Result B Why) → or_wire (r >>! λ rest. Ok (x ∷ rest)) >>= g ≡ or_wire r >>= λ rest. g (x ∷ rest)
 cons-wire (Ok rest) x g = refl
@@ -138,12 +141,12 @@ each-joined : (read : List ℕ → Found) (b : List ℕ) (later : Result (List (
 each-joined read b (Ok bs) w = refl
 each-joined read b (Err why) w = ap Err w ∙ (sym (joined-wire (read b)) ∙ ap (λ x. joined (read b) (Err x)) (sym w))
 
-module _ (read : List ℕ → Found) (n : ℕ) (bytes : List ℕ) (start now : Gathered) (at : ℕ) (all : Found) (going : Going start now (each_from read n bytes at) all) where
+module _ (read : List ℕ → Found) (n : ℕ) (bytes : List ℕ) (start now : FoundSoFar) (at : ℕ) (all : Found) (going : Going start now (each_from read n bytes at) all) where
   next_first : (b : List ℕ) (next : ℕ) → bodies_at n bytes at ≡ with_body b (bodies_at n bytes next) → Going start now (joined (read b) (each_from read n bytes next)) all
   next_first b next is =
       subst (λ x. Going start now x all) (ap (λ r. r >>= every read) is ∙ each-joined read b (bodies_at n bytes next) (bodies_at-only n bytes next)) going
 
-  pub each_read : (new : Gathered) (b : List ℕ) (next : ℕ) → bodies_at n bytes at ≡ with_body b (bodies_at n bytes next) → Grows now new (read b) → Going start new (each_from read n bytes next) all
+  pub each_read : (new : FoundSoFar) (b : List ℕ) (next : ℕ) → bodies_at n bytes at ≡ with_body b (bodies_at n bytes next) → Grows now new (read b) → Going start new (each_from read n bytes next) all
   each_read new b next is grows = going_step start now new (read b) (each_from read n bytes next) all (next_first b next is) grows
 
   pub each_stops : (e : BlockErr) (b : List ℕ) (next : ℕ) → bodies_at n bytes at ≡ with_body b (bodies_at n bytes next) → Ends now e (read b) → Ends start e all
@@ -183,9 +186,9 @@ field-before n r m w h true (eight_bytes k) = refl
 field-before n r m w h true (four_bytes k) = refl
 field-before n r m w h false v = keep r fields_in m h ∙ sym (nothing-before r)
 
-merged-bodies : (n : ℕ) (fields : List Entry) → merged n fields ≡ bodies n fields >>= fields_in
-merged-bodies n [] = refl
-merged-bodies n (f ∷ fields) = field-before n (bodies n fields) (merged n fields) (all_of-only one_body one_body-only n fields) (merged-bodies n fields) (f.number == n) f.value
+merged_fields-bodies : (n : ℕ) (fields : List Entry) → merged_fields n fields ≡ bodies n fields >>= fields_in
+merged_fields-bodies n [] = refl
+merged_fields-bodies n (f ∷ fields) = field-before n (bodies n fields) (merged_fields n fields) (all_of-only one_body one_body-only n fields) (merged_fields-bodies n fields) (f.number == n) f.value
 
 -- a group whose parts are read one after another
 refused_first : (why : Why) → why ≡ reasons.Wire → (x : Found) → Err why ≡ joined (Err why) x
@@ -194,10 +197,10 @@ refused_first why w x = ap Err w ∙ (sym (wire-joined x) ∙ ap (λ y. joined (
 refused_later : (why : Why) → why ≡ reasons.Wire → (x y : Found) → Err why ≡ y → Err why ≡ joined x y
 refused_later why w x y same = ap Err w ∙ (sym (joined-wire x) ∙ ap (joined x) (ap Err (sym w) ∙ same))
 
-module _ (strings : List (List ℕ)) (grid : Grid) where
+module _ (strings : List (List ℕ)) (granularity : Granularity) where
   four : (nodes : Result (List (List ℕ)) Why) (dense : Result (List Entry) Why) (ways relations : Result (List (List ℕ)) Why) → OnlyWire nodes → OnlyWire dense → OnlyWire ways → OnlyWire relations
-      → (nodes >>= λ nodes. dense >>= λ dense. ways >>= λ ways. relations >>= λ relations. Ok (record { nodes = nodes; dense = dense; ways = ways; relations = relations })) >>= elements_in strings grid
-      ≡ joined (nodes >>= nodes_in strings grid) (joined (dense >>= dense_of strings grid) (joined (ways >>= ways_in strings) (relations >>= relations_in strings)))
+      → (nodes >>= λ nodes. dense >>= λ dense. ways >>= λ ways. relations >>= λ relations. Ok (record { nodes = nodes; dense = dense; ways = ways; relations = relations })) >>= elements_in strings granularity
+      ≡ joined (nodes >>= each_in strings granularity kinds.Node) (joined (dense >>= dense_of strings granularity) (joined (ways >>= each_in strings granularity kinds.Way) (relations >>= each_in strings granularity kinds.Relation)))
   four (Err why) dense ways relations a b d e = refused_first why a _
   four (Ok nodes) (Err why) ways relations a b d e = refused_later why b _ _ (refused_first why b _)
   four (Ok nodes) (Ok dense) (Err why) relations a b d e = refused_later why d _ _ (refused_later why d _ _ (refused_first why d _))
@@ -205,97 +208,101 @@ module _ (strings : List (List ℕ)) (grid : Grid) where
   four (Ok nodes) (Ok dense) (Ok ways) (Ok relations) a b d e = refl
 
   parts : (r : Result (List Entry) Why) → OnlyWire r
-      → (r >>= λ fields. bodies 1 fields >>= λ nodes. merged 2 fields >>= λ dense. bodies 3 fields >>= λ ways. bodies 4 fields >>= λ relations. Ok (record { nodes = nodes; dense = dense; ways = ways; relations = relations })) >>= elements_in strings grid
-      ≡ joined (r >>= bodies 1 >>= nodes_in strings grid) (joined (r >>= bodies 2 >>= fields_in >>= dense_of strings grid) (joined (r >>= bodies 3 >>= ways_in strings) (r >>= bodies 4 >>= relations_in strings)))
+      → (r >>= λ fields. bodies 1 fields >>= λ nodes. merged_fields 2 fields >>= λ dense. bodies 3 fields >>= λ ways. bodies 4 fields >>= λ relations. Ok (record { nodes = nodes; dense = dense; ways = ways; relations = relations })) >>= elements_in strings granularity
+      ≡ joined (r >>= bodies 1 >>= each_in strings granularity kinds.Node) (joined (r >>= bodies 2 >>= fields_in >>= dense_of strings granularity) (joined (r >>= bodies 3 >>= each_in strings granularity kinds.Way) (r >>= bodies 4 >>= each_in strings granularity kinds.Relation)))
   parts (Err why) w = refused_first why w (joined (Err why) (joined (Err why) (Err why)))
   parts (Ok fields) w =
-      ap (λ m. (bodies 1 fields >>= λ nodes. m >>= λ dense. bodies 3 fields >>= λ ways. bodies 4 fields >>= λ relations. Ok (record { nodes = nodes; dense = dense; ways = ways; relations = relations })) >>= elements_in strings grid) (merged-bodies 2 fields)
+      ap (λ m. (bodies 1 fields >>= λ nodes. m >>= λ dense. bodies 3 fields >>= λ ways. bodies 4 fields >>= λ relations. Ok (record { nodes = nodes; dense = dense; ways = ways; relations = relations })) >>= elements_in strings granularity) (merged_fields-bodies 2 fields)
       ∙ four (bodies 1 fields) (bodies 2 fields >>= fields_in) (bodies 3 fields) (bodies 4 fields) (all_of-only one_body one_body-only 1 fields)
       (only-next (bodies 2 fields) fields_in (all_of-only one_body one_body-only 2 fields) fields_in-only) (all_of-only one_body one_body-only 3 fields) (all_of-only one_body one_body-only 4 fields)
 
-pub group_of_walked : (strings : List (List ℕ)) (grid : Grid) (body : List ℕ) → group_of strings grid body
-    ≡ joined (each_from (λ b. one (node_of strings grid b)) 1 body 0) (joined (dense_in strings grid body) (joined (each_from (λ b. one (way_of strings b)) 3 body 0) (each_from (λ b. one (relation_of strings b)) 4 body 0)))
-unfolding group_of bodies_at
-group_of_walked strings grid body = parts strings grid (or_wire (message body)) (or_wire-only (message body))
+-- the elements of a kind of a group
+abbrev pub kind_in : List (List ℕ) → Granularity → Kind → List ℕ → Found
+kind_in strings granularity kind group = each_from (λ b. one (element_of strings granularity kind b)) (group_field kind) group 0
 
-pub merged_wire : (n : ℕ) (bytes : List ℕ) (why : Why) → merged_in n bytes ≡ Err why → why ≡ reasons.Wire
-merged_wire n bytes why stop = subst OnlyWire stop (merged_in-only n bytes)
+pub group_of_walked : (strings : List (List ℕ)) (granularity : Granularity) (body : List ℕ) → group_of strings granularity body
+    ≡ joined (kind_in strings granularity kinds.Node body) (joined (dense_in strings granularity body) (joined (kind_in strings granularity kinds.Way body) (kind_in strings granularity kinds.Relation body)))
+unfolding group_of bodies_at
+group_of_walked strings granularity body = parts strings granularity (or_wire (message body)) (or_wire-only (message body))
+
+pub merged_wire : (n : ℕ) (bytes : List ℕ) (why : Why) → merged_fields_in n bytes ≡ Err why → why ≡ reasons.Wire
+merged_wire n bytes why stop = subst OnlyWire stop (merged_fields_in-only n bytes)
 
 -- the fields of the next message, before those of the later ones
 later-fields : (these : Result (List Entry) Why) (r : Result (List (List ℕ)) Why) (b : List ℕ) → OnlyWire these → OnlyWire r → these ≡ fields_of b
     → with_body b r >>= fields_in ≡ these >>= λ xs. r >>= fields_in >>= λ later. Ok (xs ++ later)
 later-fields these r b w v same = sym (fields-before these r (r >>= fields_in) b w v refl same)
 
-module _ (n : ℕ) (bytes : List ℕ) (at next : ℕ) (b : List ℕ) (front : List Entry) (total : Result (List Entry) Why) (is : bodies_at n bytes at ≡ with_body b (bodies_at n bytes next))
-    (told : with_found front (bodies_at n bytes at >>= fields_in) ≡ total) where
-  first_fields : with_found front (fields_of b) >>= (λ more. with_found more (bodies_at n bytes next >>= fields_in)) ≡ total
+module _ (n : ℕ) (bytes : List ℕ) (at next : ℕ) (b : List ℕ) (prefix : List Entry) (total : Result (List Entry) Why) (is : bodies_at n bytes at ≡ with_body b (bodies_at n bytes next))
+    (told : with_found prefix (bodies_at n bytes at >>= fields_in) ≡ total) where
+  first_fields : with_found prefix (fields_of b) >>= (λ more. with_found more (bodies_at n bytes next >>= fields_in)) ≡ total
   first_fields =
-      sym (with_found-part front (fields_of b) (bodies_at n bytes next >>= fields_in))
-      ∙ (ap (with_found front) (sym (later-fields (fields_of b) (bodies_at n bytes next) b (or_wire-only (message b)) (bodies_at-only n bytes next) refl))
-      ∙ (ap (λ r. with_found front (r >>= fields_in)) (sym is) ∙ told))
+      sym (with_found-part prefix (fields_of b) (bodies_at n bytes next >>= fields_in))
+      ∙ (ap (with_found prefix) (sym (later-fields (fields_of b) (bodies_at n bytes next) b (or_wire-only (message b)) (bodies_at-only n bytes next) refl))
+      ∙ (ap (λ r. with_found prefix (r >>= fields_in)) (sym is) ∙ told))
 
-  pub fields_joined : (more : List Entry) → with_found front (fields_of b) ≡ Ok more → with_found more (bodies_at n bytes next >>= fields_in) ≡ total
+  pub fields_joined : (more : List Entry) → with_found prefix (fields_of b) ≡ Ok more → with_found more (bodies_at n bytes next >>= fields_in) ≡ total
   fields_joined more step = sym (ap (λ r. r >>= λ more. with_found more (bodies_at n bytes next >>= fields_in)) step) ∙ first_fields
 
-  pub fields_stop : (why : Why) → with_found front (fields_of b) ≡ Err why → total ≡ Err why
+  pub fields_stop : (why : Why) → with_found prefix (fields_of b) ≡ Err why → total ≡ Err why
   fields_stop why step = sym first_fields ∙ ap (λ r. r >>= λ more. with_found more (bodies_at n bytes next >>= fields_in)) step
 
-pub fields_end : (n : ℕ) (bytes : List ℕ) (at : ℕ) (front : List Entry) (total : Result (List Entry) Why) → bodies_at n bytes at ≡ Ok [] → with_found front (bodies_at n bytes at >>= fields_in) ≡ total → total ≡ Ok front
-fields_end n bytes at front total none told = sym told ∙ (ap (λ r. with_found front (r >>= fields_in)) none ∙ ap Ok (append-nil front))
+pub fields_end : (n : ℕ) (bytes : List ℕ) (at : ℕ) (prefix : List Entry) (total : Result (List Entry) Why) → bodies_at n bytes at ≡ Ok [] → with_found prefix (bodies_at n bytes at >>= fields_in) ≡ total → total ≡ Ok prefix
+fields_end n bytes at prefix total none told = sym told ∙ (ap (λ r. with_found prefix (r >>= fields_in)) none ∙ ap Ok (append-nil prefix))
 
-pub fields_refused : (n : ℕ) (bytes : List ℕ) (at : ℕ) (front : List Entry) (total : Result (List Entry) Why) (why : Why) → bodies_at n bytes at ≡ Err why → with_found front (bodies_at n bytes at >>= fields_in) ≡ total → total ≡ Err why
-fields_refused n bytes at front total why stop told = sym told ∙ ap (λ r. with_found front (r >>= fields_in)) stop
+pub fields_refused : (n : ℕ) (bytes : List ℕ) (at : ℕ) (prefix : List Entry) (total : Result (List Entry) Why) (why : Why) → bodies_at n bytes at ≡ Err why → with_found prefix (bodies_at n bytes at >>= fields_in) ≡ total → total ≡ Err why
+fields_refused n bytes at prefix total why stop told = sym told ∙ ap (λ r. with_found prefix (r >>= fields_in)) stop
 
 -- the parts of a group, one after another
-module _ (strings : List (List ℕ)) (grid : Grid) (group : List ℕ) (start : Gathered) where
+module _ (strings : List (List ℕ)) (granularity : Granularity) (group : List ℕ) (start : FoundSoFar) where
   abbrev nodes_part : Found
-  nodes_part = each_from (λ b. one (node_of strings grid b)) 1 group 0
+  nodes_part = kind_in strings granularity kinds.Node group
 
   abbrev dense_part : Found
-  dense_part = dense_in strings grid group
+  dense_part = dense_in strings granularity group
 
   abbrev ways_part : Found
-  ways_part = each_from (λ b. one (way_of strings b)) 3 group 0
+  ways_part = kind_in strings granularity kinds.Way group
 
   abbrev relations_part : Found
-  relations_part = each_from (λ b. one (relation_of strings b)) 4 group 0
+  relations_part = kind_in strings granularity kinds.Relation group
 
-  at_nodes : Going start start (joined nodes_part (joined dense_part (joined ways_part relations_part))) (group_of strings grid group)
-  at_nodes so_far held = (so_far, (held, ap (joined so_far) (sym (group_of_walked strings grid group))))
+  at_nodes : Going start start (joined nodes_part (joined dense_part (joined ways_part relations_part))) (group_of strings granularity group)
+  at_nodes so_far held = (so_far, (held, ap (joined so_far) (sym (group_of_walked strings granularity group))))
 
-  pub nodes_stop : (e : BlockErr) → Ends start e nodes_part → Ends start e (group_of strings grid group)
-  nodes_stop e ends = going_err start start e nodes_part (joined dense_part (joined ways_part relations_part)) (group_of strings grid group) at_nodes ends
+  pub nodes_stop : (e : BlockErr) → Ends start e nodes_part → Ends start e (group_of strings granularity group)
+  nodes_stop e ends = going_err start start e nodes_part (joined dense_part (joined ways_part relations_part)) (group_of strings granularity group) at_nodes ends
 
-  module _ (noded : Gathered) (nodes : Grows start noded nodes_part) where
-    at_dense : Going start noded (joined dense_part (joined ways_part relations_part)) (group_of strings grid group)
-    at_dense = going_step start start noded nodes_part (joined dense_part (joined ways_part relations_part)) (group_of strings grid group) at_nodes nodes
+  module _ (noded : FoundSoFar) (nodes : Grows start noded nodes_part) where
+    at_dense : Going start noded (joined dense_part (joined ways_part relations_part)) (group_of strings granularity group)
+    at_dense = going_step start start noded nodes_part (joined dense_part (joined ways_part relations_part)) (group_of strings granularity group) at_nodes nodes
 
-    pub dense_stop : (e : BlockErr) → Ends noded e dense_part → Ends start e (group_of strings grid group)
-    dense_stop e ends = going_err start noded e dense_part (joined ways_part relations_part) (group_of strings grid group) at_dense ends
+    pub dense_stop : (e : BlockErr) → Ends noded e dense_part → Ends start e (group_of strings granularity group)
+    dense_stop e ends = going_err start noded e dense_part (joined ways_part relations_part) (group_of strings granularity group) at_dense ends
 
-    module _ (densed : Gathered) (dense : Grows noded densed dense_part) where
-      at_ways : Going start densed (joined ways_part relations_part) (group_of strings grid group)
-      at_ways = going_step start noded densed dense_part (joined ways_part relations_part) (group_of strings grid group) at_dense dense
+    module _ (densed : FoundSoFar) (dense : Grows noded densed dense_part) where
+      at_ways : Going start densed (joined ways_part relations_part) (group_of strings granularity group)
+      at_ways = going_step start noded densed dense_part (joined ways_part relations_part) (group_of strings granularity group) at_dense dense
 
-      pub ways_stop : (e : BlockErr) → Ends densed e ways_part → Ends start e (group_of strings grid group)
-      ways_stop e ends = going_err start densed e ways_part relations_part (group_of strings grid group) at_ways ends
+      pub ways_stop : (e : BlockErr) → Ends densed e ways_part → Ends start e (group_of strings granularity group)
+      ways_stop e ends = going_err start densed e ways_part relations_part (group_of strings granularity group) at_ways ends
 
-      module _ (wayed : Gathered) (ways : Grows densed wayed ways_part) where
-        at_relations : Going start wayed relations_part (group_of strings grid group)
-        at_relations = going_step start densed wayed ways_part relations_part (group_of strings grid group) at_ways ways
+      module _ (wayed : FoundSoFar) (ways : Grows densed wayed ways_part) where
+        at_relations : Going start wayed relations_part (group_of strings granularity group)
+        at_relations = going_step start densed wayed ways_part relations_part (group_of strings granularity group) at_ways ways
 
-        pub relations_stop : (e : BlockErr) → Ends wayed e relations_part → Ends start e (group_of strings grid group)
-        relations_stop e ends = going_last_err start wayed e relations_part (group_of strings grid group) at_relations ends
+        pub relations_stop : (e : BlockErr) → Ends wayed e relations_part → Ends start e (group_of strings granularity group)
+        relations_stop e ends = going_last_err start wayed e relations_part (group_of strings granularity group) at_relations ends
 
-        pub group_added : (new : Gathered) → Grows wayed new relations_part → Grows start new (group_of strings grid group)
-        group_added new grows = going_last start wayed new relations_part (group_of strings grid group) at_relations grows
+        pub group_added : (new : FoundSoFar) → Grows wayed new relations_part → Grows start new (group_of strings granularity group)
+        group_added new grows = going_last start wayed new relations_part (group_of strings granularity group) at_relations grows
 
 -- what ends the reading of the dense messages ends that of the dense nodes
-pub merged_ends : (strings : List (List ℕ)) (grid : Grid) (group : List ℕ) (start : Gathered) (e : BlockErr) → IsStop e (merged_in 2 group) → Ends start e (dense_in strings grid group)
-merged_ends strings grid group start (faults.Bad why) stop so_far held =
+pub merged_ends : (strings : List (List ℕ)) (granularity : Granularity) (group : List ℕ) (start : FoundSoFar) (e : BlockErr) → IsStop e (merged_fields_in 2 group) → Ends start e (dense_in strings granularity group)
+merged_ends strings granularity group start (faults.Bad why) stop so_far held =
     let wire : why ≡ reasons.Wire = merged_wire 2 group why stop in
-    (wire, ap (λ r. joined so_far (r >>= dense_of strings grid)) stop ∙ (ap (λ w. joined so_far (Err w)) wire ∙ joined-wire so_far))
-merged_ends strings grid group start faults.Memory stop so_far held = tt
+    (wire, ap (λ r. joined so_far (r >>= dense_of strings granularity)) stop ∙ (ap (λ w. joined so_far (Err w)) wire ∙ joined-wire so_far))
+merged_ends strings granularity group start faults.Memory stop so_far held = tt
 
 -- what `?` hands on is the error of the call
 pub next_err : (n : ℕ) (bytes : List ℕ) (at : ℕ) (r : Result (Option (Bor (List ℕ) × ℕ)) BlockErr) (e : BlockErr) → IsErrAnd r (λ x. x ≡ e) → IsStop e (bodies_at n bytes at) → IsNext n bytes at r
@@ -333,24 +340,24 @@ tables-walked m [] = refl
 tables-walked m (b ∷ bs) = one-table m (fields_of b) (fields_in bs) (bodies_in m bs) (fields_in-only bs) (tables-walked m bs)
 
 pub strings_of_walked : (fields : List Entry) → strings_of fields ≡ bodies 1 fields >>= bodies_in 1
-strings_of_walked fields = ap (λ r. r >>= bodies 1) (merged-bodies 1 fields) ∙ through (bodies 1 fields)
+strings_of_walked fields = ap (λ r. r >>= bodies 1) (merged_fields-bodies 1 fields) ∙ through (bodies 1 fields)
   where
     through : (r : Result (List (List ℕ)) Why) → r >>= fields_in >>= bodies 1 ≡ r >>= bodies_in 1
     through (Ok bs) = tables-walked 1 bs
     through (Err why) = refl
 
 -- the strings of the next table
-module _ (n : ℕ) (tables : List (Bor (List ℕ))) (i : ℕ) (d : Bor (List ℕ)) (front : List (List ℕ)) (total : Result (List (List ℕ)) Why) (here : i < length tables)
-    (told : with_found front (bodies_in n (map (λ b. b.now) (drop i tables))) ≡ total) where
-  first_table : with_found front (bodies_at n (get_or tables i d).now 0) >>= (λ more. with_found more (bodies_in n (map (λ b. b.now) (drop (i + 1) tables)))) ≡ total
+module _ (n : ℕ) (tables : List (Bor (List ℕ))) (i : ℕ) (d : Bor (List ℕ)) (prefix : List (List ℕ)) (total : Result (List (List ℕ)) Why) (here : i < length tables)
+    (told : with_found prefix (bodies_in n (map (λ b. b.now) (drop i tables))) ≡ total) where
+  first_table : with_found prefix (bodies_at n (get_or tables i d).now 0) >>= (λ more. with_found more (bodies_in n (map (λ b. b.now) (drop (i + 1) tables)))) ≡ total
   first_table =
-      sym (with_found-part front (bodies_at n (get_or tables i d).now 0) (bodies_in n (map (λ b. b.now) (drop (i + 1) tables))))
-      ∙ (sym (ap (λ xs. with_found front (bodies_in n (map (λ b. b.now) xs))) (drop_more tables i d here)) ∙ told)
+      sym (with_found-part prefix (bodies_at n (get_or tables i d).now 0) (bodies_in n (map (λ b. b.now) (drop (i + 1) tables))))
+      ∙ (sym (ap (λ xs. with_found prefix (bodies_in n (map (λ b. b.now) xs))) (drop_more tables i d here)) ∙ told)
 
-  pub table_joined : (more : List (List ℕ)) → with_found front (bodies_at n (get_or tables i d).now 0) ≡ Ok more → with_found more (bodies_in n (map (λ b. b.now) (drop (i + 1) tables))) ≡ total
+  pub table_joined : (more : List (List ℕ)) → with_found prefix (bodies_at n (get_or tables i d).now 0) ≡ Ok more → with_found more (bodies_in n (map (λ b. b.now) (drop (i + 1) tables))) ≡ total
   table_joined more step = sym (ap (λ r. r >>= λ more. with_found more (bodies_in n (map (λ b. b.now) (drop (i + 1) tables)))) step) ∙ first_table
 
-  pub table_stops : (why : Why) → with_found front (bodies_at n (get_or tables i d).now 0) ≡ Err why → total ≡ Err why
+  pub table_stops : (why : Why) → with_found prefix (bodies_at n (get_or tables i d).now 0) ≡ Err why → total ≡ Err why
   table_stops why step = sym first_table ∙ ap (λ r. r >>= λ more. with_found more (bodies_in n (map (λ b. b.now) (drop (i + 1) tables)))) step
 
 -- the next of the bytes of a number joins those before it
@@ -359,8 +366,8 @@ pub body_joined : (n : ℕ) (bytes : List ℕ) (at next : ℕ) (out : List (Bor 
 body_joined n bytes at next out b total is told =
     rw map-append (sym (with_found-item (map (λ b. b.now) out) b.now (bodies_at n bytes next)) ∙ (sym (ap (with_found (map (λ b. b.now) out)) is) ∙ told))
 
-pub bodies_stop : (front : List (List ℕ)) (r total : Result (List (List ℕ)) Why) (why : Why) → with_found front r ≡ total → r ≡ Err why → total ≡ Err why
-bodies_stop front r total why told stop = sym told ∙ ap (with_found front) stop
+pub bodies_stop : (prefix : List (List ℕ)) (r total : Result (List (List ℕ)) Why) (why : Why) → with_found prefix r ≡ total → r ≡ Err why → total ≡ Err why
+bodies_stop prefix r total why told stop = sym told ∙ ap (with_found prefix) stop
 
-pub bodies_end : (front : List (List ℕ)) (r total : Result (List (List ℕ)) Why) → with_found front r ≡ total → r ≡ Ok [] → total ≡ Ok front
-bodies_end front r total told none = sym told ∙ (ap (with_found front) none ∙ ap Ok (append-nil front))
+pub bodies_end : (prefix : List (List ℕ)) (r total : Result (List (List ℕ)) Why) → with_found prefix r ≡ total → r ≡ Ok [] → total ≡ Ok prefix
+bodies_end prefix r total told none = sym told ∙ (ap (with_found prefix) none ∙ ap Ok (append-nil prefix))

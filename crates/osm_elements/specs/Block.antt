@@ -2,14 +2,17 @@
 use Rattle.std.specs.Prelude.{ℕ, suc, pos, int_lt, if◌then◌else◌, Result, Ok, Err, List, [], ◌∷◌, ◌++◌}
 use Rattle.tb_types.specs.declared.damage.Why.{Why}
 use Rattle.tb_types.specs.declared.damage.Why.TheVariants as reasons
+use Rattle.tb_types.specs.declared.element.Kind.{Kind}
+use Rattle.tb_types.specs.declared.element.Kind.TheVariants as kinds
 use Rattle.tb_wire.specs.Field.{Entry}
-use Rattle.osm_elements.specs.Reasons.{◌>>=◌, first}
-use Rattle.osm_elements.specs.Fields.{fields_of, bodies, merged}
+use Rattle.tb_types.specs.Results.{◌>>=◌}
+use Rattle.osm_elements.specs.Reasons.{first}
+use Rattle.osm_elements.specs.Fields.{fields_of, bodies, merged_fields}
 use Rattle.osm_elements.specs.Tags.{strings_of}
-use Rattle.osm_elements.specs.Grid.{grid_of}
-use Rattle.osm_elements.specs.Elements.{Element, node, way, relation, node_of, way_of, relation_of}
+use Rattle.osm_elements.specs.Granularity.{granularity_of}
+use Rattle.osm_elements.specs.Elements.{Element, node, way, relation, element_of}
 use Rattle.osm_elements.specs.Dense.{dense_of}
-use Rattle.osm_elements.specs.declared.grid.Grid.{Grid}
+use Rattle.osm_elements.specs.declared.granularity.Granularity.{Granularity}
 use Rattle.osm_elements.specs.declared.element.NodeEl.{NodeEl}
 use Rattle.osm_elements.specs.declared.element.WayEl.{WayEl}
 use Rattle.osm_elements.specs.declared.element.RelEl.{RelEl}
@@ -36,14 +39,9 @@ abbrev pub every : (List ℕ → Found) → List (List ℕ) → Found
 every read [] = Ok []
 every read (body ∷ bodies) = joined (read body) (every read bodies)
 
-abbrev pub nodes_in : List (List ℕ) → Grid → List (List ℕ) → Found
-nodes_in strings grid bodies = every (λ body. one (node_of strings grid body)) bodies
-
-abbrev pub ways_in : List (List ℕ) → List (List ℕ) → Found
-ways_in strings bodies = every (λ body. one (way_of strings body)) bodies
-
-abbrev pub relations_in : List (List ℕ) → List (List ℕ) → Found
-relations_in strings bodies = every (λ body. one (relation_of strings body)) bodies
+-- the elements of a kind of these messages
+abbrev pub each_in : List (List ℕ) → Granularity → Kind → List (List ℕ) → Found
+each_in strings granularity kind bodies = every (λ body. one (element_of strings granularity kind body)) bodies
 
 -- the parts of a group: nodes, one message of dense nodes, ways and relations
 pub record Parts : Type 0 where
@@ -54,30 +52,31 @@ pub record Parts : Type 0 where
 
 abbrev pub parts_of : List ℕ → Result Parts Why
 parts_of body =
-    fields_of body >>= λ fields. bodies 1 fields >>= λ nodes. merged 2 fields >>= λ dense. bodies 3 fields >>= λ ways. bodies 4 fields >>= λ relations.
+    fields_of body >>= λ fields. bodies 1 fields >>= λ nodes. merged_fields 2 fields >>= λ dense. bodies 3 fields >>= λ ways. bodies 4 fields >>= λ relations.
     Ok (record { nodes = nodes; dense = dense; ways = ways; relations = relations })
 
 -- the elements of these parts, in this order
-abbrev pub elements_in : List (List ℕ) → Grid → Parts → Found
-elements_in strings grid parts =
-    joined (nodes_in strings grid parts.nodes) (joined (dense_of strings grid parts.dense) (joined (ways_in strings parts.ways) (relations_in strings parts.relations)))
+abbrev pub elements_in : List (List ℕ) → Granularity → Parts → Found
+elements_in strings granularity parts =
+    joined (each_in strings granularity kinds.Node parts.nodes) (joined (dense_of strings granularity parts.dense)
+    (joined (each_in strings granularity kinds.Way parts.ways) (each_in strings granularity kinds.Relation parts.relations)))
 
 -- a PrimitiveGroup
-unfoldable pub group_of : List (List ℕ) → Grid → List ℕ → Found
-group_of strings grid body = parts_of body >>= elements_in strings grid
+unfoldable pub group_of : List (List ℕ) → Granularity → List ℕ → Found
+group_of strings granularity body = parts_of body >>= elements_in strings granularity
 
-abbrev pub groups_in : List (List ℕ) → Grid → List (List ℕ) → Found
-groups_in strings grid bodies = every (group_of strings grid) bodies
+abbrev pub groups_in : List (List ℕ) → Granularity → List (List ℕ) → Found
+groups_in strings granularity bodies = every (group_of strings granularity) bodies
 
 -- a unit is at least 1
-abbrev pub unit_checked : Grid → Found
-unit_checked grid = if int_lt grid.unit (pos 1) then Err reasons.Range else Ok []
+abbrev pub unit_check : Granularity → Found
+unit_check granularity = if int_lt granularity.unit (pos 1) then Err reasons.Range else Ok []
 
 -- The elements of a PrimitiveBlock.
 unfoldable pub elements_of : List ℕ → Found
 elements_of raw =
-    fields_of raw >>= λ fields. strings_of fields >>= λ strings. grid_of fields >>= λ grid. bodies 2 fields >>= λ groups.
-    joined (groups_in strings grid groups) (unit_checked grid)
+    fields_of raw >>= λ fields. strings_of fields >>= λ strings. granularity_of fields >>= λ granularity. bodies 2 fields >>= λ groups.
+    joined (groups_in strings granularity groups) (unit_check granularity)
 
 -- an element of one kind, with its number
 abbrev pub as_node : ℕ → Element → List NodeEl

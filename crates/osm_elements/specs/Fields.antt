@@ -5,7 +5,7 @@ use Rattle.tb_types.specs.declared.damage.Why.TheVariants as reasons
 use Rattle.tb_wire.specs.declared.varint.Wire.{Wire}
 use Rattle.tb_wire.specs.Field.{Value, Entry, number, eight_bytes, text, four_bytes}
 use Rattle.tb_wire.specs.Message.{message, packed}
-use Rattle.osm_elements.specs.Reasons.{◌>>=◌}
+use Rattle.tb_types.specs.Results.{◌>>=◌}
 
 -- whatever is no message has one reason
 abbrev pub or_wire : {A : Type 0} → Result A Wire → Result A Why
@@ -75,10 +75,10 @@ abbrev pub bodies : ℕ → List Entry → Result (List (List ℕ)) Why
 bodies n fields = all_of one_body n fields
 
 -- the fields of all messages of a number: they count as one message
-abbrev pub merged : ℕ → List Entry → Result (List Entry) Why
-merged n fields = all_of some_fields n fields
+abbrev pub merged_fields : ℕ → List Entry → Result (List Entry) Why
+merged_fields n fields = all_of some_fields n fields
 
 -- what was read before what is read of the rest
 abbrev pub with_found : {A : Type 0} → List A → Result (List A) Why → Result (List A) Why
-with_found front (Ok rest) = Ok (front ++ rest)
-with_found front (Err why) = Err why
+with_found prefix (Ok rest) = Ok (prefix ++ rest)
+with_found prefix (Err why) = Err why

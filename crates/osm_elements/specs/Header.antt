@@ -4,18 +4,19 @@ use Rattle.std.specs.Str.{bytes_eq}
 use Rattle.tb_types.specs.declared.damage.Why.{Why}
 use Rattle.tb_types.specs.declared.damage.Why.TheVariants as reasons
 use Rattle.tb_types.specs.declared.location.Bounds.{Bounds}
-use Rattle.tb_wire.specs.Zigzag.{unzigzag_of}
+use Rattle.tb_types.specs.Zigzag.{unzigzag_of}
 use Rattle.tb_wire.specs.Field.{Entry}
-use Rattle.osm_elements.specs.Reasons.{◌>>=◌, required}
-use Rattle.osm_elements.specs.Fields.{fields_of, last_number, bodies, merged}
+use Rattle.tb_types.specs.Results.{◌>>=◌}
+use Rattle.osm_elements.specs.Reasons.{require}
+use Rattle.osm_elements.specs.Fields.{fields_of, last_number, bodies, merged_fields}
 
--- the features that a reader may be required to have
+-- the features that a reader may be require to have
 unfoldable pub is_accepted : List ℕ → Bool
 is_accepted feature = bytes_eq feature (codes "OsmSchema-V0.6") || bytes_eq feature (codes "DenseNodes")
 
-abbrev pub all_accepted : List (List ℕ) → Bool
-all_accepted [] = true
-all_accepted (f ∷ features) = is_accepted f && all_accepted features
+abbrev pub are_accepted : List (List ℕ) → Bool
+are_accepted [] = true
+are_accepted (f ∷ features) = is_accepted f && are_accepted features
 
 -- a box is within 180 and 90 degrees, with its left not above its right and its bottom not above its top
 abbrev pub is_ordered : Bounds → Bool
@@ -34,7 +35,7 @@ if_valid b = if is_valid b then Some b else None
 abbrev pub box_in : List Entry → Result Bounds Why
 box_in fields =
     last_number 1 fields >>= λ left. last_number 2 fields >>= λ right. last_number 3 fields >>= λ top. last_number 4 fields >>= λ bottom.
-    required left >>= λ left. required right >>= λ right. required top >>= λ top. required bottom >>= λ bottom.
+    require left >>= λ left. require right >>= λ right. require top >>= λ top. require bottom >>= λ bottom.
     Ok (record { left = unzigzag_of left; right = unzigzag_of right; top = unzigzag_of top; bottom = unzigzag_of bottom })
 
 -- the box, if one stands
@@ -44,5 +45,5 @@ box_if boxes fields = if length boxes == 0 then Ok None else box_in fields >>= �
 -- A HeaderBlock.
 unfoldable pub header_of : List ℕ → Result (Option Bounds) Why
 header_of raw =
-    fields_of raw >>= λ fields. bodies 1 fields >>= λ boxes. merged 1 fields >>= λ in_box. bodies 4 fields >>= λ features.
-    box_if boxes in_box >>= λ box. if all_accepted features then Ok box else Err reasons.Feature
+    fields_of raw >>= λ fields. bodies 1 fields >>= λ boxes. merged_fields 1 fields >>= λ in_box. bodies 4 fields >>= λ features.
+    box_if boxes in_box >>= λ box. if are_accepted features then Ok box else Err reasons.Feature

@@ -4,8 +4,8 @@ use Rattle.std.specs.Str.{bytes_eq, is_utf8}
 use Rattle.tb_types.specs.declared.damage.Why.{Why}
 use Rattle.tb_types.specs.declared.damage.Why.TheVariants as reasons
 use Rattle.tb_wire.specs.Field.{Entry}
-use Rattle.osm_elements.specs.Reasons.{◌>>=◌}
-use Rattle.osm_elements.specs.Fields.{merged, bodies}
+use Rattle.tb_types.specs.Results.{◌>>=◌}
+use Rattle.osm_elements.specs.Fields.{merged_fields, bodies}
 use Rattle.osm_elements.specs.Signed.{low_32}
 
 -- a tag: its key and its value
@@ -14,7 +14,7 @@ Tag = List ℕ × List ℕ
 
 -- the strings of a block
 abbrev pub strings_of : List Entry → Result (List (List ℕ)) Why
-strings_of fields = merged 1 fields >>= bodies 1
+strings_of fields = merged_fields 1 fields >>= bodies 1
 
 abbrev pub if_there : {A : Type 0} → Option A → Result A Why
 if_there None = Err reasons.Index

@@ -5,8 +5,9 @@ use Rattle.tb_types.specs.declared.damage.Why.{Why}
 use Rattle.tb_wire.specs.Field.{Entry}
 use Rattle.tb_wire.specs.Message.{message_at}
 use Rattle.osm_elements.specs.declared.fault.BlockErr.{BlockErr}
-use Rattle.osm_elements.specs.declared.grid.Grid.{Grid}
-use Rattle.osm_elements.specs.Reasons.{◌>>=◌, IsStop}
+use Rattle.osm_elements.specs.declared.granularity.Granularity.{Granularity}
+use Rattle.tb_types.specs.Results.{◌>>=◌}
+use Rattle.osm_elements.specs.Reasons.{IsStop}
 use Rattle.osm_elements.specs.Fields.{or_wire, fields_of, bodies}
 use Rattle.osm_elements.specs.Dense.{dense_of}
 use Rattle.osm_elements.specs.Block.{Found, every}
@@ -35,12 +36,12 @@ fields_in [] = Ok []
 fields_in (body ∷ bodies) = fields_of body >>= λ these. fields_in bodies >>= λ later. Ok (these ++ later)
 
 -- the fields of all messages of a number
-abbrev pub merged_in : ℕ → List ℕ → Result (List Entry) Why
-merged_in n bytes = bodies_at n bytes 0 >>= fields_in
+abbrev pub merged_fields_in : ℕ → List ℕ → Result (List Entry) Why
+merged_fields_in n bytes = bodies_at n bytes 0 >>= fields_in
 
 -- the dense nodes of a group
-abbrev pub dense_in : List (List ℕ) → Grid → List ℕ → Found
-dense_in strings grid group = merged_in 2 group >>= dense_of strings grid
+abbrev pub dense_in : List (List ℕ) → Granularity → List ℕ → Found
+dense_in strings granularity group = merged_fields_in 2 group >>= dense_of strings granularity
 
 -- the bytes of each field of a number in all messages, one after another
 abbrev pub bodies_in : ℕ → List (List ℕ) → Result (List (List ℕ)) Why

@@ -13,9 +13,9 @@ use tb_types::Why;
 use tb_wire::Field;
 
 /// The lists of dense nodes: place by place an id, a latitude and a longitude in the block's unit. The pairs of their
-/// tags are a run for each node, or none at all, and were checked.
+/// tags are a run for each node, or none at all, and were check_of.
 #[derive(Drop)]
-pub struct Dense {
+pub(crate) struct Dense {
     pub ids: Vec<i64>,
     pub lats: Vec<i64>,
     pub lons: Vec<i64>,
@@ -32,7 +32,7 @@ impl Dense {
 }
 
 /// The lists of the dense nodes of a message with these fields.
-pub fn dense_lists(
+pub(crate) fn dense_lists(
     alloc: Global,
     strings: &[&[u8]],
     fields: &[Field<'_>],

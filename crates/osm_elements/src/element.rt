@@ -10,7 +10,7 @@ pub struct NodeEl {
     pub tags: Tags,
 }
 
-/// A way, with the nodes that it goes along.
+/// A way, with the nodes that it goes coordinate.
 #[derive(Debug, Drop)]
 pub struct WayEl {
     pub index: u32,
@@ -49,4 +49,12 @@ pub struct Kinds {
     pub nodes: bool,
     pub ways: bool,
     pub relations: bool,
+}
+
+/// An element without its number in the block.
+#[derive(Drop)]
+pub(crate) enum AnyElement {
+    Node(OsmId, Option<LatLon>, Tags),
+    Way(OsmId, Tags, Seq<OsmId>),
+    Relation(OsmId, Tags, Seq<Member>),
 }

@@ -39,7 +39,7 @@ impl From<NoMemory> for BlockErr {
 }
 
 /// The one of two reasons that is named.
-pub fn first(one: Why, other: Why) -> Why
+pub(crate) fn first(one: Why, other: Why) -> Why
     ensures { result ≡ first one other }
 {
     if rank(other) < rank(one) { other } else { one }

@@ -1,11 +1,11 @@
 ghost use Rattle.std.specs.Prelude.{◌≡◌, map};
 ghost use Rattle.tb_wire.specs.Field.{entry_of};
 ghost use Rattle.osm_elements.specs.Reasons.{Gives};
-ghost use Rattle.osm_elements.specs.Header.{header_of, box_if, box_in, is_valid, is_ordered, is_within, is_accepted, all_accepted};
+ghost use Rattle.osm_elements.specs.Header.{header_of, box_if, box_in, is_valid, is_ordered, is_within, is_accepted, are_accepted};
 
+use crate::common::require;
 use crate::fault::BlockErr;
-use crate::message::{bodies, fields, last_number, merged};
-use crate::node::required;
+use crate::message::{bodies, fields, last_number, merged_fields};
 use crate::numbers::{
     BOX_BOTTOM, BOX_LEFT, BOX_RIGHT, BOX_TOP, HEADER_BOX, HEADER_FEATURE, LARGEST_BOX_LAT,
     LARGEST_BOX_LON,
@@ -16,7 +16,7 @@ use tb_wire::{Field, unzigzag};
 
 /// The box of a raw header (osmformat.proto, HeaderBlock), or `None` exactly where no valid box stands. `Bad` exactly
 /// where the header is outside the format, with the first of these that holds anywhere in it: `Wire` (no message, or a
-/// field of another wire type), `Missing` (a box without one of its numbers), `Feature` (a required feature other than
+/// field of another wire type), `Missing` (a box without one of its numbers), `Feature` (a require feature other than
 /// `OsmSchema-V0.6` and `DenseNodes`).
 #[tactic(auto, unfolding(crate::specs::Header::header_of))]
 pub fn read_header(alloc: Global, raw: &[u8]) -> Result<Option<Bounds>, BlockErr>
@@ -24,10 +24,10 @@ pub fn read_header(alloc: Global, raw: &[u8]) -> Result<Option<Bounds>, BlockErr
 {
     let fields = fields(alloc, raw)?;
     let boxes = bodies(alloc, HEADER_BOX, &fields)?;
-    let in_box = merged(alloc, HEADER_BOX, &fields)?;
+    let in_box = merged_fields(alloc, HEADER_BOX, &fields)?;
     let features = bodies(alloc, HEADER_FEATURE, &fields)?;
     let found = box_if(&boxes, &in_box)?;
-    if !all_accepted(&features) {
+    if !are_accepted(&features) {
         return Err(BlockErr::Bad(Why::Feature));
     }
     Ok(found)
@@ -55,10 +55,10 @@ fn box_in(fields: &[Field<'_>]) -> Result<Bounds, BlockErr>
     let right = last_number(BOX_RIGHT, fields)?;
     let top = last_number(BOX_TOP, fields)?;
     let bottom = last_number(BOX_BOTTOM, fields)?;
-    let left = required(left)?;
-    let right = required(right)?;
-    let top = required(top)?;
-    let bottom = required(bottom)?;
+    let left = require(left)?;
+    let right = require(right)?;
+    let top = require(top)?;
+    let bottom = require(bottom)?;
     Ok(Bounds {
         left: unzigzag(left),
         right: unzigzag(right),
@@ -87,8 +87,8 @@ fn is_within(one: i64, other: i64, limit: u64) -> bool
     one.unsigned_abs() <= limit && other.unsigned_abs() <= limit
 }
 
-fn all_accepted(features: &[&[u8]]) -> bool
-    ensures { result ≡ all_accepted (map (λ b. b.now) features.now) }
+fn are_accepted(features: &[&[u8]]) -> bool
+    ensures { result ≡ are_accepted (map (λ b. b.now) features.now) }
 {
     for feature in features {
         if !is_accepted(*feature) {

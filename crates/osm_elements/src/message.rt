@@ -1,7 +1,7 @@
-ghost use Rattle.std.specs.Prelude.{◌≡◌, map};
+ghost use Rattle.std.specs.Prelude.{◌≡◌, ◌≤◌, length, map};
 ghost use Rattle.tb_wire.specs.Field.{entry_of, text};
 ghost use Rattle.osm_elements.specs.Reasons.{Gives};
-ghost use Rattle.osm_elements.specs.Fields.{fields_of, some_numbers, some_fields, numbers, bodies, merged, last_number, with_found, last_read, if_numbered, one_number, one_body};
+ghost use Rattle.osm_elements.specs.Fields.{fields_of, some_numbers, some_fields, numbers, bodies, merged_fields, last_number, with_found, last_read, if_numbered, one_number, one_body};
 
 use crate::fault::BlockErr;
 use std::alloc::Global;
@@ -9,11 +9,11 @@ use tb_types::Why;
 use tb_wire::{Field, FieldValue, read_field, read_varint};
 
 /// What is no message, no packed list or no field of its stated type.
-pub const NO_MESSAGE: BlockErr = BlockErr::Bad(Why::Wire);
+pub(crate) const NO_MESSAGE: BlockErr = BlockErr::Bad(Why::Wire);
 
 /// The fields of a message.
-#[tactic(auto, using(crate::proofs::Fronts::with_found_nil))]
-pub fn fields<'a>(alloc: Global, bytes: &'a [u8]) -> Result<Vec<Field<'a>>, BlockErr>
+#[tactic(auto, using(crate::proofs::Prefixes::with_found_nil))]
+pub(crate) fn fields<'a>(alloc: Global, bytes: &'a [u8]) -> Result<Vec<Field<'a>>, BlockErr>
     ensures { Gives (λ v. map entry_of v.items) result (fields_of bytes.now) }
 {
     let mut fields = Vec::new(alloc);
@@ -22,7 +22,7 @@ pub fn fields<'a>(alloc: Global, bytes: &'a [u8]) -> Result<Vec<Field<'a>>, Bloc
 }
 
 /// Adds the fields of a message.
-pub fn put_fields<'a>(out: &mut Vec<Field<'a>>, bytes: &'a [u8]) -> Result<(), BlockErr>
+pub(crate) fn put_fields<'a>(out: &mut Vec<Field<'a>>, bytes: &'a [u8]) -> Result<(), BlockErr>
     ensures { Gives (λ _. map entry_of out.new.items) result (with_found (map entry_of out.old.items) (fields_of bytes.now)) }
 {
     out.reserve(field_count(bytes))?;
@@ -41,18 +41,20 @@ pub fn put_fields<'a>(out: &mut Vec<Field<'a>>, bytes: &'a [u8]) -> Result<(), B
 }
 
 // How many fields a message has, as far as it can be read. It is asked for the room alone.
-fn field_count(bytes: &[u8]) -> usize {
+fn field_count(bytes: &[u8]) -> usize
+    ensures { result ≤ length bytes.now }
+{
     let mut count: usize = 0;
     let mut at = 0;
     while let Ok(Some(field)) = read_field(bytes, at) {
-        count = count.saturating_add(1);
+        count += 1;
         at = field.next;
     }
     count
 }
 
 /// The last varint of a number, if there is one.
-pub fn last_number(number: u32, fields: &[Field<'_>]) -> Result<Option<u64>, BlockErr>
+pub(crate) fn last_number(number: u32, fields: &[Field<'_>]) -> Result<Option<u64>, BlockErr>
     ensures { Gives (λ n. n) result (last_number number (map entry_of fields.now)) }
 {
     let mut last = None;
@@ -80,7 +82,11 @@ fn later_number(
 }
 
 /// All varints of a number, packed and unpacked.
-pub fn numbers(alloc: Global, number: u32, fields: &[Field<'_>]) -> Result<Vec<u64>, BlockErr>
+pub(crate) fn numbers(
+    alloc: Global,
+    number: u32,
+    fields: &[Field<'_>],
+) -> Result<Vec<u64>, BlockErr>
     ensures { Gives (λ v. v.items) result (numbers number (map entry_of fields.now)) }
 {
     let mut numbers = Vec::new(alloc);
@@ -126,24 +132,44 @@ fn put_packed(out: &mut Vec<u64>, bytes: &[u8]) -> Result<(), BlockErr>
 }
 
 // How many varints a packed list has: each ends with a byte below 128.
-fn varint_count(bytes: &[u8]) -> usize {
-    bytes.iter().filter(|byte| **byte < 128).count()
+fn varint_count(bytes: &[u8]) -> usize
+    ensures { result ≤ length bytes.now }
+{
+    let mut count = 0;
+    for byte in bytes {
+        if *byte < 128 {
+            count += 1;
+        }
+    }
+    count
 }
 
 /// The bytes of each field of a number.
-pub fn bodies<'a>(
+pub(crate) fn bodies<'a>(
     alloc: Global,
     number: u32,
     fields: &[Field<'a>],
 ) -> Result<Vec<&'a [u8]>, BlockErr>
     ensures { Gives (λ v. map (λ b. b.now) v.items) result (bodies number (map entry_of fields.now)) }
 {
-    let count = fields.iter().filter(|field| field.number == number).count();
-    let mut bodies = Vec::with_capacity(alloc, count)?;
+    let mut bodies = Vec::with_capacity(alloc, numbered_count(number, fields))?;
     for field in fields {
         put_body(&mut bodies, number, field)?;
     }
     Ok(bodies)
+}
+
+// How many of these fields have this number.
+fn numbered_count(number: u32, fields: &[Field<'_>]) -> usize
+    ensures { result ≤ length fields.now }
+{
+    let mut count = 0;
+    for field in fields {
+        if field.number == number {
+            count += 1;
+        }
+    }
+    count
 }
 
 // Adds the bytes of a field of this number.
@@ -163,18 +189,18 @@ fn put_body<'a>(out: &mut Vec<&'a [u8]>, number: u32, field: &Field<'a>) -> Resu
 }
 
 /// The fields of all messages of a number.
-pub fn merged<'a>(
+pub(crate) fn merged_fields<'a>(
     alloc: Global,
     number: u32,
     fields: &[Field<'a>],
 ) -> Result<Vec<Field<'a>>, BlockErr>
-    ensures { Gives (λ v. map entry_of v.items) result (merged number (map entry_of fields.now)) }
+    ensures { Gives (λ v. map entry_of v.items) result (merged_fields number (map entry_of fields.now)) }
 {
-    let mut merged = Vec::new(alloc);
+    let mut merged_fields = Vec::new(alloc);
     for field in fields {
-        put_message(&mut merged, number, field)?;
+        put_message(&mut merged_fields, number, field)?;
     }
-    Ok(merged)
+    Ok(merged_fields)
 }
 
 // Adds the fields of the message that a field of this number has.

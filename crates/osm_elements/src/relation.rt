@@ -1,44 +1,39 @@
 ghost use Rattle.std.specs.Prelude.{◌≡◌, map};
 ghost use Rattle.osm_elements.specs.Reasons.{Gives};
-ghost use Rattle.osm_elements.specs.Elements.{relation, relation_of, members_of, kind_of};
+ghost use Rattle.osm_elements.specs.Elements.{relation_of, seen_element, members_of, kind_of};
 
-use crate::element::Member;
+use crate::common::{common_in, require};
+use crate::element::{AnyElement, Member};
 use crate::fault::BlockErr;
-use crate::message::{fields, last_number, numbers};
-use crate::node::required;
-use crate::numbers::{
-    ELEMENT_ID, ELEMENT_KEYS, ELEMENT_VALUES, KIND_NODE, KIND_RELATION, KIND_WAY, RELATION_IDS,
-    RELATION_KINDS,
-};
+use crate::message::{fields, numbers};
+use crate::numbers::{KIND_NODE, KIND_RELATION, KIND_WAY, RELATION_IDS, RELATION_KINDS};
 use crate::signed::{low_32, signed_64};
 use crate::sums::sums_of;
 use crate::tags::tags_of;
 use std::alloc::Global;
-use tb_types::{Kind, OsmId, Tags, Why};
+use tb_types::{Kind, OsmId, Seq, Why};
 
-/// The relation of a message, without its number in the block.
+/// The relation of a message.
 #[tactic(auto, unfolding(crate::specs::Elements::relation_of))]
-pub fn relation_of(
+pub(crate) fn relation_of(
     alloc: Global,
     strings: &[&[u8]],
     body: &[u8],
-) -> Result<(OsmId, Tags, Vec<Member>), BlockErr>
-    ensures { Gives (λ r. relation r.0 r.1.pairs r.2.items) result (relation_of (map (λ b. b.now) strings.now) body.now) }
+) -> Result<AnyElement, BlockErr>
+    ensures { Gives seen_element result (relation_of (map (λ b. b.now) strings.now) body.now) }
 {
     let fields = fields(alloc, body)?;
-    let id = last_number(ELEMENT_ID, &fields)?;
-    let keys = numbers(alloc, ELEMENT_KEYS, &fields)?;
-    let values = numbers(alloc, ELEMENT_VALUES, &fields)?;
+    let common = common_in(alloc, &fields)?;
     let ids = numbers(alloc, RELATION_IDS, &fields)?;
     let kinds = numbers(alloc, RELATION_KINDS, &fields)?;
-    let id = required(id)?;
+    let id = require(common.id)?;
     if ids.len() != kinds.len() {
         return Err(BlockErr::Bad(Why::Uneven));
     }
-    let tags = tags_of(alloc, strings, &keys, &values)?;
+    let tags = tags_of(alloc, strings, &common.keys, &common.values)?;
     let ids = sums_of(alloc, ids)?;
     let members = members_of(alloc, &ids, &kinds)?;
-    Ok((OsmId(signed_64(id)), tags, members))
+    Ok(AnyElement::Relation(OsmId(signed_64(id)), tags, Seq::from_vec(members)))
 }
 
 // The members of these ids and kinds, as far as both lists go.

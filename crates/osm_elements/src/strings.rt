@@ -15,7 +15,7 @@ use tb_wire::Field;
 
 /// The strings of a block, from its fields.
 #[tactic(auto, using(crate::proofs::Walks::strings_of_walked))]
-pub fn strings_of<'a>(alloc: Global, fields: &[Field<'a>]) -> Result<Vec<&'a [u8]>, BlockErr>
+pub(crate) fn strings_of<'a>(alloc: Global, fields: &[Field<'a>]) -> Result<Vec<&'a [u8]>, BlockErr>
     ensures { Gives (λ v. map (λ b. b.now) v.items) result (strings_of (map entry_of fields.now)) }
 {
     let tables = bodies(alloc, BLOCK_TABLE, fields)?;
@@ -34,7 +34,7 @@ fn strings_in<'a>(alloc: Global, tables: &[&'a [u8]]) -> Result<Vec<&'a [u8]>, B
 }
 
 /// The string of an index, of which the low 32 bits count.
-pub fn string_at<'a>(strings: &[&'a [u8]], index: u64) -> Result<&'a [u8], BlockErr>
+pub(crate) fn string_at<'a>(strings: &[&'a [u8]], index: u64) -> Result<&'a [u8], BlockErr>
     ensures { Gives (λ b. b.now) result (string_at (map (λ b. b.now) strings.now) index) }
 {
     match strings.get(low_32(index) as usize) {

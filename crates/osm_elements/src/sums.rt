@@ -1,6 +1,6 @@
 ghost use Rattle.std.specs.Prelude.{◌≡◌};
 ghost use Rattle.osm_elements.specs.Reasons.{Gives};
-ghost use Rattle.osm_elements.specs.Grid.{sums, next_sum};
+ghost use Rattle.osm_elements.specs.Granularity.{sums, next_sum};
 
 use crate::fault::BlockErr;
 use std::alloc::Global;
@@ -8,7 +8,7 @@ use tb_types::Why;
 use tb_wire::unzigzag;
 
 /// The numbers whose differences these are, the first from 0. `Range` where one passes 64 bits. The differences are freed.
-pub fn sums_of(alloc: Global, differences: Vec<u64>) -> Result<Vec<i64>, BlockErr>
+pub(crate) fn sums_of(alloc: Global, differences: Vec<u64>) -> Result<Vec<i64>, BlockErr>
     ensures { Gives (λ v. v.items) result (sums differences.items) }
 {
     sums(alloc, &differences)

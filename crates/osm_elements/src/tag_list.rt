@@ -15,12 +15,12 @@ use tb_types::{Seq, Tags, Text};
 /// How many tags are walked to find a key.
 const WALKED: usize = 32;
 
-/// The tags of one element while they are gathered, of which no two have one key.
+/// The tags of one element while they are found, of which no two have one key.
 ///
 /// Keys are looked for by a walk over the first tags, and in a set of the keys of all others. So few tags take no memory
 /// for the set, and very many take no time that grows with their square.
 #[derive(Drop)]
-pub struct TagList<'a> {
+pub(crate) struct TagList<'a> {
     tags: Vec<(Text, Text)>,
     others: BTreeSet<&'a str>,
     // the set has the keys of the tags behind the first ones
@@ -55,7 +55,7 @@ impl<'a> TagList<'a> {
         self.add(alloc, key, value)
     }
 
-    /// The tags that were gathered.
+    /// The tags that were found.
     pub fn finish(self) -> Tags
         ensures { result.pairs ≡ self.entry.tags.items }
     {

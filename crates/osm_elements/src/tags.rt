@@ -10,7 +10,7 @@ use std::alloc::Global;
 use tb_types::{Seq, Tags, Why};
 
 /// No tags. They take no memory.
-pub fn no_tags(alloc: Global) -> Tags
+pub(crate) fn no_tags(alloc: Global) -> Tags
     ensures { result.pairs ≡ [] }
 {
     Tags {
@@ -19,7 +19,7 @@ pub fn no_tags(alloc: Global) -> Tags
 }
 
 /// The tags of an element, from the indexes of its keys and of its values.
-pub fn tags_of(
+pub(crate) fn tags_of(
     alloc: Global,
     strings: &[&[u8]],
     keys: &[u64],
@@ -38,7 +38,7 @@ pub fn tags_of(
 }
 
 /// Tags with that of an index of a key and one of a value added.
-pub fn with_pair<'a>(
+pub(crate) fn with_pair<'a>(
     alloc: Global,
     tags: TagList<'a>,
     strings: &[&'a [u8]],
@@ -53,7 +53,7 @@ pub fn with_pair<'a>(
 }
 
 /// The same of two indexes that are refused where they are negative.
-pub fn with_signed_pair<'a>(
+pub(crate) fn with_signed_pair<'a>(
     alloc: Global,
     tags: TagList<'a>,
     strings: &[&'a [u8]],
@@ -69,7 +69,7 @@ pub fn with_signed_pair<'a>(
 }
 
 /// Whether the low 32 bits are those of a negative number.
-pub fn is_negative(n: u64) -> bool
+pub(crate) fn is_negative(n: u64) -> bool
     ensures { result ≡ is_negative n }
 {
     low_32(n) >= HALF_32

@@ -1,9 +1,11 @@
-use crate::{BlockErr, Member, NodeEl, kinds_of, read_block, read_header};
+use crate::{Block, BlockErr, Member, NodeEl, kinds_of, read_block, read_header};
+use std::alloc::Global;
 use std::test::Fail;
-use tb_types::{Bounds, Kind, OsmId, Tags, Why};
+use tb_types::{Bounds, Kind, Memory, OsmId, Tags, Why};
+use tb_wire::put_len;
 
 /// A block for each reason, and the reasons beside one another in either order. The table of strings is "", "k", "v".
-const REASONS: [(&[u8], Option<Why>); 27] = [
+const REASONS: [(&[u8], Option<Why>); 29] = [
     // nothing at all
     (b"", None),
     // a wire type of a group
@@ -104,6 +106,16 @@ const REASONS: [(&[u8], Option<Why>); 27] = [
     // one end too many
     (
         b"\x0a\x08\x0a\x00\x0a\x01\x6b\x0a\x01\x76\x12\x0f\x12\x0d\x0a\x01\x02\x42\x01\x00\x4a\x01\x00\x52\x02\x00\x00",
+        Some(Why::Uneven),
+    ),
+    // a pair behind the end of the last node's
+    (
+        b"\x0a\x08\x0a\x00\x0a\x01\x6b\x0a\x01\x76\x12\x12\x12\x10\x0a\x01\x02\x42\x01\x00\x4a\x01\x00\x52\x05\x01\x02\x00\x01\x02",
+        Some(Why::Uneven),
+    ),
+    // a pair of no node
+    (
+        b"\x0a\x08\x0a\x00\x0a\x01\x6b\x0a\x01\x76\x12\x0c\x12\x0a\x0a\x00\x42\x00\x4a\x00\x52\x02\x01\x02",
         Some(Why::Uneven),
     ),
     // a key of -1
@@ -293,5 +305,69 @@ fn elements_are_read(rt: HostRuntime) -> Result<(), Fail> {
     assert!(rt; relations[0].members.as_slice() == members.as_slice());
     let kinds = kinds_of(&block);
     assert!(rt; kinds.nodes && kinds.ways && kinds.relations);
+    Ok(())
+}
+
+/// More of each than a number of 16 bits counts.
+const MANY: usize = 70_000;
+
+// A field with as many bytes of one value: differences, or kinds of members.
+fn put_many(out: &mut Vec<u8>, alloc: Global, number: u32, byte: u8) -> Result<(), Memory> {
+    let bytes = vec![in alloc; byte; MANY]?;
+    put_len(out, number, &bytes)
+}
+
+// Dense nodes with the ids from 1 on.
+fn many_nodes(alloc: Global) -> Result<Vec<u8>, Memory> {
+    let mut dense = Vec::new(alloc);
+    put_many(&mut dense, alloc, 1, 2)?;
+    put_many(&mut dense, alloc, 8, 0)?;
+    put_many(&mut dense, alloc, 9, 0)?;
+    Ok(dense)
+}
+
+// Way 1 with the refs from 1 on.
+fn long_way(alloc: Global) -> Result<Vec<u8>, Memory> {
+    let mut way = Vec::from_slice(alloc, b"\x08\x01")?;
+    put_many(&mut way, alloc, 8, 2)?;
+    Ok(way)
+}
+
+// Relation 1 with the members from 1 on, which are nodes.
+fn long_relation(alloc: Global) -> Result<Vec<u8>, Memory> {
+    let mut relation = Vec::from_slice(alloc, b"\x08\x01")?;
+    put_many(&mut relation, alloc, 9, 2)?;
+    put_many(&mut relation, alloc, 10, 0)?;
+    Ok(relation)
+}
+
+fn large_group(alloc: Global) -> Result<Vec<u8>, Memory> {
+    let mut group = Vec::new(alloc);
+    put_len(&mut group, 2, &many_nodes(alloc)?)?;
+    put_len(&mut group, 3, &long_way(alloc)?)?;
+    put_len(&mut group, 4, &long_relation(alloc)?)?;
+    Ok(group)
+}
+
+fn large_block(alloc: Global) -> Result<Block, BlockErr> {
+    let mut raw = Vec::new(alloc);
+    put_len(&mut raw, 2, &large_group(alloc)?)?;
+    read_block(alloc, &raw)
+}
+
+#[test]
+fn a_large_block_is_read(rt: HostRuntime) -> Result<(), BlockErr> {
+    let block = large_block(rt.alloc())?;
+    let nodes = block.nodes.as_slice();
+    assert!(rt; nodes.len() == MANY);
+    assert!(rt; nodes[MANY - 1].index == 69_999 && nodes[MANY - 1].id == OsmId(70_000));
+    let ways = block.ways.as_slice();
+    assert!(rt; ways.len() == 1 && ways[0].index == 70_000);
+    let refs = ways[0].refs.as_slice();
+    assert!(rt; refs.len() == MANY && refs[MANY - 1] == OsmId(70_000));
+    let relations = block.relations.as_slice();
+    assert!(rt; relations.len() == 1 && relations[0].index == 70_001);
+    let members = relations[0].members.as_slice();
+    assert!(rt; members.len() == MANY && members[MANY - 1].id == OsmId(70_000));
     Ok(())
 }

@@ -4,7 +4,7 @@ ghost use Rattle.std.specs.Prelude.{◌≡◌, ◌<◌, ◌≤◌, [], ◌∷◌
 ghost use Rattle.tb_wire.specs.Field.{entry_of, value_of};
 ghost use Rattle.osm_elements.specs.Reasons.{Gives};
 ghost use Rattle.osm_elements.specs.Fields.{with_found, one_body};
-ghost use Rattle.osm_elements.specs.Walks.{IsNext, bodies_at, merged_in};
+ghost use Rattle.osm_elements.specs.Walks.{IsNext, bodies_at, merged_fields_in};
 
 use crate::fault::BlockErr;
 use crate::message::{NO_MESSAGE, put_fields};
@@ -12,7 +12,7 @@ use std::alloc::Global;
 use tb_wire::{Field, FieldValue, read_field};
 
 /// The bytes of the next field of a number from a place on, and the place behind it.
-pub fn next_body<'a>(
+pub(crate) fn next_body<'a>(
     number: u32,
     bytes: &'a [u8],
     from: usize,
@@ -48,7 +48,11 @@ fn body_of(value: FieldValue<'_>) -> Result<&[u8], BlockErr>
 }
 
 /// Adds the bytes of each field of a number in a message.
-pub fn put_bodies<'a>(out: &mut Vec<&'a [u8]>, number: u32, bytes: &'a [u8]) -> Result<(), BlockErr>
+pub(crate) fn put_bodies<'a>(
+    out: &mut Vec<&'a [u8]>,
+    number: u32,
+    bytes: &'a [u8],
+) -> Result<(), BlockErr>
     ensures { Gives (λ _. map (λ b. b.now) out.new.items) result (with_found (map (λ b. b.now) out.old.items) (bodies_at number bytes.now 0)) }
 {
     out.reserve(body_count(number, bytes))?;
@@ -61,23 +65,25 @@ pub fn put_bodies<'a>(out: &mut Vec<&'a [u8]>, number: u32, bytes: &'a [u8]) -> 
 }
 
 /// How many fields of a number with bytes a message has, as far as it can be read. It is asked for the room alone.
-pub fn body_count(number: u32, bytes: &[u8]) -> usize {
+pub(crate) fn body_count(number: u32, bytes: &[u8]) -> usize
+    ensures { result ≤ length bytes.now }
+{
     let mut count: usize = 0;
     let mut at = 0;
     while let Ok(Some((_body, next))) = next_body(number, bytes, at) {
-        count = count.saturating_add(1);
+        count += 1;
         at = next;
     }
     count
 }
 
 /// The fields of all messages of a number in a message.
-pub fn merged_in<'a>(
+pub(crate) fn merged_fields_in<'a>(
     alloc: Global,
     number: u32,
     bytes: &'a [u8],
 ) -> Result<Vec<Field<'a>>, BlockErr>
-    ensures { Gives (λ v. map entry_of v.items) result (merged_in number bytes.now) }
+    ensures { Gives (λ v. map entry_of v.items) result (merged_fields_in number bytes.now) }
 {
     let mut fields = Vec::new(alloc);
     let mut at = 0;

@@ -1,36 +1,31 @@
-ghost use Rattle.std.specs.Prelude.{◌≡◌, map};
+ghost use Rattle.std.specs.Prelude.{◌≡◌, Ok, map};
 ghost use Rattle.osm_elements.specs.Reasons.{Gives};
-ghost use Rattle.osm_elements.specs.Elements.{way, way_of, osm_id};
+ghost use Rattle.osm_elements.specs.Elements.{way_of, seen_element, osm_id};
 
+use crate::common::{common_in, require};
+use crate::element::AnyElement;
 use crate::fault::BlockErr;
-use crate::message::{fields, last_number, numbers};
-use crate::node::required;
-use crate::numbers::{ELEMENT_ID, ELEMENT_KEYS, ELEMENT_VALUES, WAY_REFS};
+use crate::message::{fields, numbers};
+use crate::numbers::WAY_REFS;
 use crate::signed::signed_64;
 use crate::sums::sums_of;
 use crate::tags::tags_of;
 use std::alloc::Global;
-use tb_types::{OsmId, Tags};
+use tb_types::{OsmId, Seq};
 
-/// The way of a message, without its number in the block.
+/// The way of a message.
 #[tactic(auto, unfolding(crate::specs::Elements::way_of))]
-pub fn way_of(
-    alloc: Global,
-    strings: &[&[u8]],
-    body: &[u8],
-) -> Result<(OsmId, Tags, Vec<OsmId>), BlockErr>
-    ensures { Gives (λ w. way w.0 w.1.pairs w.2.items) result (way_of (map (λ b. b.now) strings.now) body.now) }
+pub(crate) fn way_of(alloc: Global, strings: &[&[u8]], body: &[u8]) -> Result<AnyElement, BlockErr>
+    ensures { Gives seen_element result (way_of (map (λ b. b.now) strings.now) body.now) }
 {
     let fields = fields(alloc, body)?;
-    let id = last_number(ELEMENT_ID, &fields)?;
-    let keys = numbers(alloc, ELEMENT_KEYS, &fields)?;
-    let values = numbers(alloc, ELEMENT_VALUES, &fields)?;
+    let common = common_in(alloc, &fields)?;
     let refs = numbers(alloc, WAY_REFS, &fields)?;
-    let id = required(id)?;
-    let tags = tags_of(alloc, strings, &keys, &values)?;
+    let id = require(common.id)?;
+    let tags = tags_of(alloc, strings, &common.keys, &common.values)?;
     let refs = sums_of(alloc, refs)?;
     let refs = ids(alloc, &refs)?;
-    Ok((OsmId(signed_64(id)), tags, refs))
+    Ok(AnyElement::Way(OsmId(signed_64(id)), tags, Seq::from_vec(refs)))
 }
 
 fn ids(alloc: Global, numbers: &[i64]) -> Result<Vec<OsmId>, BlockErr>

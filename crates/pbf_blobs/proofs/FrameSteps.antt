@@ -6,11 +6,11 @@ use Rattle.tb_types.specs.declared.damage.Why.{Why}
 use Rattle.tb_types.specs.declared.damage.Why.TheVariants as why
 use Rattle.pbf_blobs.specs.declared.block.BlockAt.{BlockAt}
 use Rattle.pbf_blobs.specs.declared.header.Header.{Header}
-use Rattle.pbf_blobs.specs.Fields.{◌>>=◌}
+use Rattle.tb_types.specs.Results.{◌>>=◌}
 use Rattle.pbf_blobs.specs.Header.{header_of}
-use Rattle.pbf_blobs.specs.Frames.{header_len_at, short_header, with_header, with_len, frame_at, in_order, block_at}
+use Rattle.pbf_blobs.specs.Frames.{header_len_at, len_or_0, body_from, short_header, with_header, with_len, frame_at, in_order, block_at}
 use Rattle.pbf_blobs.specs.Kinds.{is_elements}
-use Rattle.pbf_blobs.specs.Answers.{IsBefore}
+use Rattle.pbf_blobs.specs.Answers.{IsInHead}
 
 pub header_len-cut : (bytes : List ℕ) (at : ℕ) → length bytes < at + 4 → header_len_at bytes at ≡ Err why.Cut
 unfolding header_len_at
@@ -58,24 +58,20 @@ IfOk-bind P (Ok x) f h = h x
 IfOk-bind P (Err e) f h = tt
 
 -- the body lies behind the header
-with_len-behind : (bytes : List ℕ) (n at len : ℕ) → IfOk (with_len bytes n at len) (λ block. at + 4 + len ≤ block.at)
-with_len-behind bytes n at len =
-    let P : BlockAt → Type 0 = λ block. at + 4 + len ≤ block.at in
+with_len-place : (bytes : List ℕ) (n at len : ℕ) → IfOk (with_len bytes n at len) (λ block. block.at ≡ at + 4 + len)
+with_len-place bytes n at len =
+    let P : BlockAt → Type 0 = λ block. block.at ≡ at + 4 + len in
     IfOk-if P (nat_lt (length bytes) (at + 4 + len)) _ _ tt
     (IfOk-bind P (header_of (slice_range bytes (at + 4) (at + 4 + len))) (with_header bytes n at len)
-    (λ header. IfOk-if P (nat_lt (length bytes) (at + 4 + len + header.len)) _ _ tt (omega arith)))
+    (λ header. IfOk-if P (nat_lt (length bytes) (at + 4 + len + header.len)) _ _ tt refl))
 
-pub frame-behind_header : (bytes : List ℕ) (n at len : ℕ) → header_len_at bytes at ≡ Ok len → IfOk (frame_at bytes n at) (λ block. at + 4 + len ≤ block.at)
-frame-behind_header bytes n at len h = rw (frame-with_len bytes n at len h) (with_len-behind bytes n at len)
-
-pub frame-behind : (bytes : List ℕ) (n at : ℕ) → IfOk (frame_at bytes n at) (λ block. at + 4 ≤ block.at)
+pub frame-place : (bytes : List ℕ) (n at : ℕ) → IfOk (frame_at bytes n at) (λ block. block.at ≡ body_from bytes at)
 unfolding frame_at
-frame-behind bytes n at =
-    IfOk-bind (λ block. at + 4 ≤ block.at) (header_len_at bytes at) (with_len bytes n at) (λ len. weaker len (with_len bytes n at len) (with_len-behind bytes n at len))
+frame-place bytes n at = go (header_len_at bytes at)
   where
-    weaker : (len : ℕ) (r : Result BlockAt Why) → IfOk r (λ block. at + 4 + len ≤ block.at) → IfOk r (λ block. at + 4 ≤ block.at)
-    weaker len (Ok block) h = omega (arith, h)
-    weaker len (Err e) h = tt
+    go : (r : Result ℕ Why) → IfOk (r >>= with_len bytes n at) (λ block. block.at ≡ at + 4 + len_or_0 r)
+    go (Ok len) = with_len-place bytes n at len
+    go (Err e) = tt
 
 pub block-too_many : (bytes : List ℕ) (n at : ℕ) (headed : Bool) → 2 ^ 24 ≤ n → block_at bytes n at headed ≡ Err why.FileLong
 unfolding block_at
@@ -85,20 +81,14 @@ pub block-of_frame : (bytes : List ℕ) (n at : ℕ) (headed : Bool) → n < 2 ^
 unfolding block_at
 block-of_frame bytes n at headed h = rw (lt-leb (2 ^ 24) n h) refl
 
-in_order-before : (at : ℕ) (headed : Bool) (r : Result BlockAt Why) (l : ℕ × ℕ) → IsBefore at r l → IsBefore at (r >>= in_order headed) l
-in_order-before at headed (Ok block) l h = (h.0, IfOk-if (λ (b : BlockAt). l.0 + l.1 ≤ b.at) (is_elements block.kind && not headed) (Err why.NoHeader) (Ok block) (tt {0}) h.1)
-in_order-before at headed (Err e) l h = h
+-- the load of a length lies in the head of a frame, and so does that of a header
+pub len_in_head : (bytes : List ℕ) (at : ℕ) (l : ℕ × ℕ) → l ≡ (at, 4) → IsInHead bytes at l
+len_in_head bytes at l is = subst (λ (m : ℕ × ℕ). IsInHead bytes at m) (sym is) (omega arith, omega arith)
 
--- what lies before the body of a frame lies before that of the block
-pub block-before : (bytes : List ℕ) (n at : ℕ) (headed : Bool) (l : ℕ × ℕ) → n < 2 ^ 24 → IsBefore at (frame_at bytes n at) l → IsBefore at (block_at bytes n at headed) l
-block-before bytes n at headed l few h = rw (block-of_frame bytes n at headed few) (in_order-before at headed (frame_at bytes n at) l h)
-
--- the load of a length lies before the body, and so does that of a header
-pub len_before : (bytes : List ℕ) (n at : ℕ) (l : ℕ × ℕ) → l ≡ (at, 4) → IsBefore at (frame_at bytes n at) l
-len_before bytes n at l is = subst (λ (m : ℕ × ℕ). IsBefore at (frame_at bytes n at) m) (sym is) (omega arith, frame-behind bytes n at)
-
-pub header_before : (bytes : List ℕ) (n at len : ℕ) (l : ℕ × ℕ) → header_len_at bytes at ≡ Ok len → l ≡ (at + 4, len) → IsBefore at (frame_at bytes n at) l
-header_before bytes n at len l read is = subst (λ (m : ℕ × ℕ). IsBefore at (frame_at bytes n at) m) (sym is) (omega arith, frame-behind_header bytes n at len read)
+pub header_in_head : (bytes : List ℕ) (at len : ℕ) (l : ℕ × ℕ) → header_len_at bytes at ≡ Ok len → l ≡ (at + 4, len) → IsInHead bytes at l
+header_in_head bytes at len l read is =
+    let known : len_or_0 (header_len_at bytes at) ≡ len = ap len_or_0 read in
+    subst (λ (m : ℕ × ℕ). IsInHead bytes at m) (sym is) (omega arith, omega (arith, known))
 
 pub with_len-no_header : (bytes : List ℕ) (n at len : ℕ) (reason : Why) → at + 4 + len ≤ length bytes → header_of (slice_range bytes (at + 4) (at + 4 + len)) ≡ Err reason → with_len bytes n at len ≡ Err reason
 with_len-no_header bytes n at len reason fits h = with_len-header bytes n at len fits ∙ ap (λ r. r >>= with_header bytes n at len) h
@@ -117,9 +107,16 @@ in_order-behind : (P : BlockAt → Type 0) (headed : Bool) (r : Result BlockAt W
 in_order-behind P headed (Ok block) h = IfOk-if P (is_elements block.kind && not headed) (Err why.NoHeader) (Ok block) (tt {0}) h
 in_order-behind P headed (Err e) h = tt
 
--- a block lies behind the place where its frame begins
-pub block-behind : (bytes : List ℕ) (n at : ℕ) (headed : Bool) → IfOk (block_at bytes n at headed) (λ block. at + 4 ≤ block.at)
+-- the body of a block begins behind the head of its frame
+pub block-place : (bytes : List ℕ) (n at : ℕ) (headed : Bool) → IfOk (block_at bytes n at headed) (λ block. block.at ≡ body_from bytes at)
 unfolding block_at
-block-behind bytes n at headed =
-    let P : BlockAt → Type 0 = λ block. at + 4 ≤ block.at in
-    IfOk-if P (nat_le (2 ^ 24) n) (Err why.FileLong) (frame_at bytes n at >>= in_order headed) (tt {0}) (in_order-behind P headed (frame_at bytes n at) (frame-behind bytes n at))
+block-place bytes n at headed =
+    let P : BlockAt → Type 0 = λ block. block.at ≡ body_from bytes at in
+    IfOk-if P (nat_le (2 ^ 24) n) (Err why.FileLong) (frame_at bytes n at >>= in_order headed) (tt {0}) (in_order-behind P headed (frame_at bytes n at) (frame-place bytes n at))
+
+pub block-behind : (bytes : List ℕ) (n at : ℕ) (headed : Bool) → IfOk (block_at bytes n at headed) (λ block. at + 4 ≤ block.at)
+block-behind bytes n at headed = go (block_at bytes n at headed) (block-place bytes n at headed)
+  where
+    go : (r : Result BlockAt Why) → IfOk r (λ block. block.at ≡ body_from bytes at) → IfOk r (λ block. at + 4 ≤ block.at)
+    go (Ok block) h = omega (arith, h)
+    go (Err e) h = tt

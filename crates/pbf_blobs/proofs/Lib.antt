@@ -3,4 +3,4 @@ pub mod FrameSteps
 pub mod Reading
 pub mod Reasons
 pub mod Scanning
-pub mod WorkedRows
+pub mod WorkedCases

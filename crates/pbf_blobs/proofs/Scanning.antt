@@ -18,20 +18,20 @@ use Rattle.pbf_blobs.specs.declared.stop.ScanStop.TheVariants as stops
 use Rattle.pbf_blobs.specs.declared.stop.FrameStop.{FrameStop}
 use Rattle.pbf_blobs.specs.declared.stop.FrameStop.TheVariants.{Failed, Bad}
 use Rattle.pbf_blobs.specs.Kinds.{is_header}
-use Rattle.pbf_blobs.specs.Frames.{block_at, Frames, faulty, ended, with_rest, frames_from, all_frames, frames_before, outcome}
-use Rattle.pbf_blobs.specs.Answers.{Grows, Misses, IsBefore, ReadAnswers, FitsFrame, Tells, ScanCounts, IsNumbered, IsShort, ScanAnswers, damaged, stop_of}
+use Rattle.pbf_blobs.specs.Frames.{block_at, Frames, body_from, end_of, faulty, end_at, with_rest, frames_from, all_frames, frames_before, outcome}
+use Rattle.pbf_blobs.specs.Answers.{Grows, Misses, IsInHead, IsOfHeads, ReadAnswers, FitsFrame, Tells, ScanCounts, IsNumbered, IsShort, ScanAnswers, damage_at, stop_of}
 use Rattle.pbf_blobs.proofs.Reading.{grows-same, grows-more, grows-weaker, at_told}
-use Rattle.pbf_blobs.proofs.FrameSteps.{block-behind}
+use Rattle.pbf_blobs.proofs.FrameSteps.{block-place, block-behind}
 
 -- blocks that were found, before what is found of the rest
 abbrev pub with_blocks : List BlockAt → Frames → Frames
-with_blocks front frames = record { blocks = front ++ frames.blocks; fault = frames.fault }
+with_blocks prefix frames = record { blocks = prefix ++ frames.blocks; fault = frames.fault }
 
 pub if_told : (o : Option (List ℕ)) (P : List ℕ → Type 0) → ForSome o P → IfSome o P
 if_told None P h = tt
 if_told (Some bytes) P h = h bytes refl
 
-pub frames-end : (bytes : List ℕ) (most n at : ℕ) (headed : Bool) → length bytes ≤ at → frames_from bytes (suc most) n at headed ≡ ended n headed
+pub frames-end : (bytes : List ℕ) (most n at : ℕ) (headed : Bool) → length bytes ≤ at → frames_from bytes (suc most) n at headed ≡ end_at n headed
 unfolding frames_from
 frames-end bytes most n at headed h = rw (le-leb (length bytes) at h) refl
 
@@ -58,22 +58,53 @@ pub frames-behind : (bytes : List ℕ) (most n at : ℕ) (headed : Bool) → Are
 unfolding frames_from
 frames-behind bytes zero n at headed = All-nil (λ b. at ≤ b.at)
 frames-behind bytes (suc most) n at headed =
-    either-behind at (nat_le (length bytes) at) (ended n headed) (with_rest n (λ block. frames_from bytes most (n + 1) (block.at + block.len) (headed || is_header block.kind)) (block_at bytes n at headed))
+    either-behind at (nat_le (length bytes) at) (end_at n headed) (with_rest n (λ block. frames_from bytes most (n + 1) (block.at + block.len) (headed || is_header block.kind)) (block_at bytes n at headed))
     (either-behind at headed (record { blocks = []; fault = None }) (faulty n why.NoHeader) (All-nil (λ b. at ≤ b.at)) (All-nil (λ b. at ≤ b.at)))
     (rest-behind n at (λ block. frames_from bytes most (n + 1) (block.at + block.len) (headed || is_header block.kind)) (block_at bytes n at headed) (block-behind bytes n at headed)
     (λ block. frames-behind bytes most (n + 1) (block.at + block.len) (headed || is_header block.kind)))
 
-rest-missed : (n at : ℕ) (load : ℕ × ℕ) (read_on : BlockAt → Frames) (r : Result BlockAt Why) → IsBefore at r load → ((block : BlockAt) → AreBehind (block.at + block.len) (read_on block).blocks) → All (Misses load) (with_rest n read_on r).blocks
-rest-missed n at load read_on (Ok block) h k =
-    All-cons (Misses load) block (read_on block).blocks (inl h.1) (All-weaker (λ b. block.at + block.len ≤ b.at) (Misses load) (λ b l. inl (omega (arith, h.1, l))) (read_on block).blocks (k block))
-rest-missed n at load read_on (Err e) h k = All-nil (Misses load)
+-- what follows ends behind
+rest-end : (n at : ℕ) (read_on : BlockAt → Frames) (r : Result BlockAt Why) → IfOk r (λ block. at + 4 ≤ block.at)
+    → ((block : BlockAt) → block.at + block.len ≤ end_of (block.at + block.len) (read_on block).blocks) → at ≤ end_of at (with_rest n read_on r).blocks
+rest-end n at read_on (Ok block) h k = omega (arith, h, k block)
+rest-end n at read_on (Err e) h k = omega arith
 
--- a load between a place and the body of the frame there misses all bodies from that place on
-pub frames-missed : (bytes : List ℕ) (most n at : ℕ) (headed : Bool) (load : ℕ × ℕ) → at < length bytes → IsBefore at (block_at bytes n at headed) load → All (Misses load) (frames_from bytes (suc most) n at headed).blocks
-frames-missed bytes most n at headed load h before =
+either-end : (at : ℕ) (b : Bool) (x y : Frames) → at ≤ end_of at x.blocks → at ≤ end_of at y.blocks → at ≤ end_of at (if b then x else y).blocks
+either-end at true x y h k = h
+either-end at false x y h k = k
+
+frames-end_behind : (bytes : List ℕ) (most n at : ℕ) (headed : Bool) → at ≤ end_of at (frames_from bytes most n at headed).blocks
+unfolding frames_from
+frames-end_behind bytes zero n at headed = omega arith
+frames-end_behind bytes (suc most) n at headed =
+    either-end at (nat_le (length bytes) at) (end_at n headed) (with_rest n (λ block. frames_from bytes most (n + 1) (block.at + block.len) (headed || is_header block.kind)) (block_at bytes n at headed))
+    (either-end at headed (record { blocks = []; fault = None }) (faulty n why.NoHeader) (omega arith) (omega arith))
+    (rest-end n at (λ block. frames_from bytes most (n + 1) (block.at + block.len) (headed || is_header block.kind)) (block_at bytes n at headed) (block-behind bytes n at headed)
+    (λ block. frames-end_behind bytes most (n + 1) (block.at + block.len) (headed || is_header block.kind)))
+
+-- a load in the head of the frame at a place misses all bodies from there on, and reaches no further than the last head
+abbrev ClearFrom : List ℕ → ℕ → Frames → ℕ × ℕ → Type 0
+ClearFrom bytes at frames load = All (Misses load) frames.blocks × (load.0 + load.1 ≤ body_from bytes (end_of at frames.blocks))
+
+rest-clear : (bytes : List ℕ) (n at : ℕ) (load : ℕ × ℕ) (read_on : BlockAt → Frames) (r : Result BlockAt Why) → IsInHead bytes at load → IfOk r (λ block. block.at ≡ body_from bytes at)
+    → ((block : BlockAt) → AreBehind (block.at + block.len) (read_on block).blocks) → ((block : BlockAt) → block.at + block.len ≤ end_of (block.at + block.len) (read_on block).blocks)
+    → ClearFrom bytes at (with_rest n read_on r) load
+rest-clear bytes n at load read_on (Ok block) h e k l = (
+  All-cons (Misses load) block (read_on block).blocks (inl (omega (arith, h.1, e))) (All-weaker (λ b. block.at + block.len ≤ b.at) (Misses load) (λ b m. inl (omega (arith, h.1, e, m))) (read_on block).blocks (k block)),
+  omega (arith, h.1, e, l block),
+)
+rest-clear bytes n at load read_on (Err e) h f k l = (All-nil (Misses load), h.1)
+
+pub frames-clear : (bytes : List ℕ) (most n at : ℕ) (headed : Bool) (load : ℕ × ℕ) → at < length bytes → IsInHead bytes at load → ClearFrom bytes at (frames_from bytes (suc most) n at headed) load
+frames-clear bytes most n at headed load h before =
     let read_on : BlockAt → Frames = λ block. frames_from bytes most (n + 1) (block.at + block.len) (headed || is_header block.kind) in
     rw (frames-step bytes most n at headed h)
-    (rest-missed n at load read_on (block_at bytes n at headed) before (λ block. frames-behind bytes most (n + 1) (block.at + block.len) (headed || is_header block.kind)))
+    (rest-clear bytes n at load read_on (block_at bytes n at headed) before (block-place bytes n at headed) (λ block. frames-behind bytes most (n + 1) (block.at + block.len) (headed || is_header block.kind))
+    (λ block. frames-end_behind bytes most (n + 1) (block.at + block.len) (headed || is_header block.kind)))
+
+end_of-append : (at : ℕ) (xs ys : List BlockAt) → end_of at (xs ++ ys) ≡ end_of (end_of at xs) ys
+end_of-append at [] ys = refl
+end_of-append at (x ∷ xs) ys = end_of-append (x.at + x.len) xs ys
 
 -- What the scan keeps: blocks and loads so far, before frame n at a place of an extract of so many bytes.
 pub record Scanning (size : ℕ) (old new : SourceSeen) (blocks : List BlockAt) (n at : ℕ) (headed : Bool) : Type 0 where
@@ -83,9 +114,10 @@ pub record Scanning (size : ℕ) (old new : SourceSeen) (blocks : List BlockAt) 
   pub faults : new.faults ≡ old.faults
   pub told : ForSome old.bytes (λ bytes. with_blocks blocks (frames_from bytes (2 ^ 24 + 1 - n) n at headed) ≡ all_frames bytes)
   pub count : length blocks ≡ n
+  pub ends : end_of 0 blocks ≡ at
   pub ascend : map (λ block. block.no) blocks ≡ below n
   pub short : All (IsShort at) blocks
-  pub loads : ForSome old.bytes (λ bytes. Grows old.log new.log (λ load. All (Misses load) (all_frames bytes).blocks))
+  pub loads : ForSome old.bytes (λ bytes. Grows old.log new.log (IsOfHeads bytes (all_frames bytes)))
 
 abbrev pub IsSize : ℕ → SourceSeen → Type 0
 IsSize size s = IfSome s.bytes (λ bytes. length bytes ≡ size)
@@ -98,28 +130,32 @@ scanning-start size s = record {
   faults = refl;
   told = λ bytes is. refl;
   count = refl;
+  ends = refl;
   ascend = refl;
   short = All-nil (IsShort 0);
-  loads = λ bytes is. grows-same s.log s.log (λ load. All (Misses load) (all_frames bytes).blocks) refl;
+  loads = λ bytes is. grows-same s.log s.log (IsOfHeads bytes (all_frames bytes)) refl;
 }
 
--- a load for the next frame misses all bodies
-load-missed : (bytes : List ℕ) (blocks : List BlockAt) (n at : ℕ) (headed : Bool) (load : ℕ × ℕ) → at < length bytes → n ≤ 2 ^ 24 → All (IsShort at) blocks
-    → with_blocks blocks (frames_from bytes (2 ^ 24 + 1 - n) n at headed) ≡ all_frames bytes → IsBefore at (block_at bytes n at headed) load → All (Misses load) (all_frames bytes).blocks
-load-missed bytes blocks n at headed load more few short told before =
+-- a load for the next frame
+load-clear : (bytes : List ℕ) (blocks : List BlockAt) (n at : ℕ) (headed : Bool) (load : ℕ × ℕ) → at < length bytes → n ≤ 2 ^ 24 → All (IsShort at) blocks → end_of 0 blocks ≡ at
+    → with_blocks blocks (frames_from bytes (2 ^ 24 + 1 - n) n at headed) ≡ all_frames bytes → IsInHead bytes at load → IsOfHeads bytes (all_frames bytes) load
+load-clear bytes blocks n at headed load more few short ends told before =
     let left : 2 ^ 24 + 1 - n ≡ suc (2 ^ 24 - n) = omega arith in
-    let whole : with_blocks blocks (frames_from bytes (suc (2 ^ 24 - n)) n at headed) ≡ all_frames bytes = rw left at told in
-    let front : All (Misses load) blocks = All-weaker (IsShort at) (Misses load) (λ b h. inr (omega (arith, h.1, before.0))) blocks short in
-    let rest : All (Misses load) (frames_from bytes (suc (2 ^ 24 - n)) n at headed).blocks = frames-missed bytes (2 ^ 24 - n) n at headed load more before in
-    subst (λ (f : Frames). All (Misses load) f.blocks) whole (All-append (Misses load) blocks (frames_from bytes (suc (2 ^ 24 - n)) n at headed).blocks front rest)
+    let rest = frames_from bytes (suc (2 ^ 24 - n)) n at headed in
+    let whole : with_blocks blocks rest ≡ all_frames bytes = rw left at told in
+    let prefix : All (Misses load) blocks = All-weaker (IsShort at) (Misses load) (λ b h. inr (omega (arith, h.1, before.0))) blocks short in
+    let clear : ClearFrom bytes at rest load = frames-clear bytes (2 ^ 24 - n) n at headed load more before in
+    let last : end_of 0 (blocks ++ rest.blocks) ≡ end_of at rest.blocks = end_of-append 0 blocks rest.blocks ∙ ap (λ (p : ℕ). end_of p rest.blocks) ends in
+    subst (λ (f : Frames). IsOfHeads bytes f load) whole
+    (All-append (Misses load) blocks rest.blocks prefix clear.0, subst (λ (p : ℕ). load.0 + load.1 ≤ body_from bytes p) (sym last) clear.1)
 
 pub scanning-loads : (size : ℕ) (old mid new : SourceSeen) (blocks : List BlockAt) (n at : ℕ) (headed : Bool) (result : Result BlockAt FrameStop) → Scanning size old mid blocks n at headed → at < size → IsSize size old
-    → ReadAnswers mid new result (λ bytes. block_at bytes n at headed) (λ bytes load. IsBefore at (block_at bytes n at headed) load) → ForSome old.bytes (λ bytes. Grows old.log new.log (λ load. All (Misses load) (all_frames bytes).blocks))
+    → ReadAnswers mid new result (λ bytes. block_at bytes n at headed) (λ bytes load. IsInHead bytes at load) → ForSome old.bytes (λ bytes. Grows old.log new.log (IsOfHeads bytes (all_frames bytes)))
 scanning-loads size old mid new blocks n at headed result s more is_size h = λ bytes is.
     let long : length bytes ≡ size = at_told old.bytes bytes (λ bs. length bs ≡ size) is is_size in
-    let P : ℕ × ℕ → Type 0 = λ load. All (Misses load) (all_frames bytes).blocks in
+    let P : ℕ × ℕ → Type 0 = IsOfHeads bytes (all_frames bytes) in
     grows-more old.log mid.log new.log P (s.loads bytes is)
-    (grows-weaker mid.log new.log (λ load. IsBefore at (block_at bytes n at headed) load) P (λ load before. load-missed bytes blocks n at headed load (omega arith) s.few s.short (s.told bytes is) before) (h.loads bytes (s.bytes ∙ is)))
+    (grows-weaker mid.log new.log (λ load. IsInHead bytes at load) P (λ load before. load-clear bytes blocks n at headed load (omega arith) s.few s.short s.ends (s.told bytes is) before) (h.loads bytes (s.bytes ∙ is)))
 
 -- a block that was read is the next
 next-told : (bytes : List ℕ) (blocks : List BlockAt) (n at : ℕ) (headed : Bool) (block : BlockAt) → at < length bytes → n ≤ 2 ^ 24 → block_at bytes n at headed ≡ Ok block
@@ -135,7 +171,7 @@ next-told bytes blocks n at headed block more few read told =
     rw less (joined ∙ (ap (with_blocks blocks) (sym step) ∙ told))
 
 pub scanning-more : (size : ℕ) (old mid new : SourceSeen) (blocks : List BlockAt) (n at : ℕ) (headed : Bool) (block : BlockAt) → Scanning size old mid blocks n at headed → at < size → IsSize size old
-    → ReadAnswers mid new (Ok block) (λ bytes. block_at bytes n at headed) (λ bytes load. IsBefore at (block_at bytes n at headed) load) → FitsFrame size n at block → n < 2 ^ 24
+    → ReadAnswers mid new (Ok block) (λ bytes. block_at bytes n at headed) (λ bytes load. IsInHead bytes at load) → FitsFrame size n at block → n < 2 ^ 24
     → Scanning size old new (blocks ++ block ∷ []) (n + 1) (block.at + block.len) (headed || is_header block.kind)
 scanning-more size old mid new blocks n at headed block s more is_size h fits few = record {
   within = fits.within;
@@ -146,6 +182,7 @@ scanning-more size old mid new blocks n at headed block s more is_size h fits fe
       let long : length bytes ≡ size = at_told old.bytes bytes (λ bs. length bs ≡ size) is is_size in
       next-told bytes blocks n at headed block (omega arith) s.few (h.told bytes (s.bytes ∙ is)) (s.told bytes is);
   count = omega (arith, length-append blocks (block ∷ []), s.count);
+  ends = end_of-append 0 blocks (block ∷ []);
   ascend = map-append (λ (b : BlockAt). b.no) blocks (block ∷ []) ∙ rw (add-one n, s.ascend, fits.number) refl;
   short = All-push (IsShort (block.at + block.len)) blocks block (All-weaker (IsShort at) (IsShort (block.at + block.len)) (λ b k. (k.0, omega (arith, k.1, fits.behind))) blocks s.short) (fits.short, omega arith);
   loads = scanning-loads size old mid new blocks n at headed (Ok block) s more is_size h;
@@ -153,7 +190,7 @@ scanning-more size old mid new blocks n at headed block s more is_size h fits fe
 
 -- an answer of a scan over an extract that isn't too long
 pub scan-answers : (size : ℕ) (old new : SourceSeen) (result : Result Index ScanStop) → size ≤ 2 ^ 40 → IsSize size old → new.bytes ≡ old.bytes → ScanCounts result old.faults new.faults → old.faults ≤ new.faults
-    → ForSome old.bytes (λ bytes. Tells result (outcome (all_frames bytes).blocks (all_frames bytes).fault)) → ForSome old.bytes (λ bytes. Grows old.log new.log (λ load. All (Misses load) (all_frames bytes).blocks))
+    → ForSome old.bytes (λ bytes. Tells result (outcome (all_frames bytes).blocks (all_frames bytes).fault)) → ForSome old.bytes (λ bytes. Grows old.log new.log (IsOfHeads bytes (all_frames bytes)))
     → IfOk result (λ index. IsNumbered index.blocks) → IfOk result (λ index. All (IsShort size) index.blocks) → ScanAnswers old new result
 unfolding frames_before
 scan-answers size old new result small is_size bytes counts never_falls told loads numbered short = record {
@@ -191,11 +228,11 @@ fault-told bytes blocks n at headed reason more few read told =
     ap (λ (f : Frames). outcome f.blocks f.fault) (sym told ∙ ap (with_blocks blocks) step)
 
 pub scanning-stop : (size : ℕ) (old mid new : SourceSeen) (blocks : List BlockAt) (n at : ℕ) (headed : Bool) (stop : FrameStop) → size ≤ 2 ^ 40 → IsSize size old → Scanning size old mid blocks n at headed → at < size
-    → ReadAnswers mid new (Err stop) (λ bytes. block_at bytes n at headed) (λ bytes load. IsBefore at (block_at bytes n at headed) load) → ScanAnswers old new (Err (stop_of n stop))
+    → ReadAnswers mid new (Err stop) (λ bytes. block_at bytes n at headed) (λ bytes load. IsInHead bytes at load) → ScanAnswers old new (Err (stop_of n stop))
 scanning-stop size old mid new blocks n at headed Failed small is_size s more h =
     scan-answers size old new (Err stops.Failed) small is_size (h.bytes ∙ s.bytes) (rw s.faults at h.counts) (omega (arith, s.faults, h.never_falls)) (λ bytes is. tt) (scanning-loads size old mid new blocks n at headed (Err Failed) s more is_size h) tt tt
 scanning-stop size old mid new blocks n at headed (Bad reason) small is_size s more h =
-    scan-answers size old new (Err (damaged n reason)) small is_size (h.bytes ∙ s.bytes) (h.counts ∙ s.faults) (omega (arith, s.faults, h.never_falls))
+    scan-answers size old new (Err (damage_at n reason)) small is_size (h.bytes ∙ s.bytes) (h.counts ∙ s.faults) (omega (arith, s.faults, h.never_falls))
     (λ bytes is.
     let long : length bytes ≡ size = at_told old.bytes bytes (λ bs. length bs ≡ size) is is_size in
     fault-told bytes blocks n at headed reason (omega arith) s.few (h.told bytes (s.bytes ∙ is)) (s.told bytes is))
@@ -203,7 +240,7 @@ scanning-stop size old mid new blocks n at headed (Bad reason) small is_size s m
 
 -- behind the last frame
 end-told : (bytes : List ℕ) (blocks : List BlockAt) (n at : ℕ) (headed : Bool) → length bytes ≤ at → n ≤ 2 ^ 24 → with_blocks blocks (frames_from bytes (2 ^ 24 + 1 - n) n at headed) ≡ all_frames bytes
-    → all_frames bytes ≡ with_blocks blocks (ended n headed)
+    → all_frames bytes ≡ with_blocks blocks (end_at n headed)
 end-told bytes blocks n at headed end few told =
     let left : 2 ^ 24 + 1 - n ≡ suc (2 ^ 24 - n) = omega arith in
     sym told ∙ ap (with_blocks blocks) (rw left (frames-end bytes (2 ^ 24 - n) n at headed end))
@@ -214,17 +251,17 @@ scanning-end size old new blocks n at headed small is_size s end heads =
     scan-answers size old new (Ok (record { blocks = blocks })) small is_size s.bytes s.faults (omega (arith, s.faults))
     (λ bytes is.
     let long : length bytes ≡ size = at_told old.bytes bytes (λ bs. length bs ≡ size) is is_size in
-    let ends : all_frames bytes ≡ with_blocks blocks (ended n true) = rw heads at (end-told bytes blocks n at headed (omega arith) s.few (s.told bytes is)) in
+    let ends : all_frames bytes ≡ with_blocks blocks (end_at n true) = rw heads at (end-told bytes blocks n at headed (omega arith) s.few (s.told bytes is)) in
     ap (λ (f : Frames). outcome f.blocks f.fault) ends ∙ ap Ok (append-nil blocks))
     s.loads (record { ascend = rw s.count s.ascend; few = omega (arith, s.count, s.few) }) (All-weaker (IsShort at) (IsShort size) (λ b k. (k.0, omega (arith, k.1, s.within))) blocks s.short)
 
 pub scanning-no_header : (size : ℕ) (old new : SourceSeen) (blocks : List BlockAt) (n at : ℕ) (headed : Bool) → size ≤ 2 ^ 40 → IsSize size old → Scanning size old new blocks n at headed → size ≤ at → headed ≡ false
-    → ScanAnswers old new (Err (damaged n why.NoHeader))
+    → ScanAnswers old new (Err (damage_at n why.NoHeader))
 scanning-no_header size old new blocks n at headed small is_size s end none =
-    scan-answers size old new (Err (damaged n why.NoHeader)) small is_size s.bytes s.faults (omega (arith, s.faults))
+    scan-answers size old new (Err (damage_at n why.NoHeader)) small is_size s.bytes s.faults (omega (arith, s.faults))
     (λ bytes is.
     let long : length bytes ≡ size = at_told old.bytes bytes (λ bs. length bs ≡ size) is is_size in
-    let ends : all_frames bytes ≡ with_blocks blocks (ended n false) = rw none at (end-told bytes blocks n at headed (omega arith) s.few (s.told bytes is)) in
+    let ends : all_frames bytes ≡ with_blocks blocks (end_at n false) = rw none at (end-told bytes blocks n at headed (omega arith) s.few (s.told bytes is)) in
     ap (λ (f : Frames). outcome f.blocks f.fault) ends)
     s.loads tt tt
 
@@ -238,7 +275,7 @@ pub scan-nothing : (s : SourceSeen) → ScanAnswers s s (Err stops.Memory)
 scan-nothing s = record {
   told = if_told s.bytes _ (λ bs is. tt);
   within = if_told s.bytes _ (λ bs is. tt);
-  loads = if_told s.bytes _ (λ bs is. grows-same s.log s.log (λ load. All (Misses load) (frames_before bs).blocks) refl);
+  loads = if_told s.bytes _ (λ bs is. grows-same s.log s.log (IsOfHeads bs (frames_before bs)) refl);
   unread = if_told s.bytes _ (λ bs is large. refl);
   numbered = tt;
   short = tt;
@@ -248,7 +285,7 @@ scan-nothing s = record {
 }
 
 -- an extract that is too long
-pub scan-too_long : (old new : SourceSeen) (size : ℕ) → SizeAnswers old new (Ok size) → 2 ^ 40 < size → ScanAnswers old new (Err (damaged 0 why.FileLong))
+pub scan-too_long : (old new : SourceSeen) (size : ℕ) → SizeAnswers old new (Ok size) → 2 ^ 40 < size → ScanAnswers old new (Err (damage_at 0 why.FileLong))
 unfolding frames_before
 scan-too_long old new size h large = record {
   told = if_told old.bytes _ (λ bs is.
@@ -256,7 +293,7 @@ scan-too_long old new size h large = record {
       let passes : nat_lt (2 ^ 40) (length bs) ≡ true = lt-ltb (2 ^ 40) (length bs) (omega arith) in
       rw passes refl);
   within = if_told old.bytes _ (λ bs is. tt);
-  loads = if_told old.bytes _ (λ bs is. grows-same old.log new.log (λ load. All (Misses load) (frames_before bs).blocks) h.log);
+  loads = if_told old.bytes _ (λ bs is. grows-same old.log new.log (IsOfHeads bs (frames_before bs)) h.log);
   unread = if_told old.bytes _ (λ bs is l. h.log);
   numbered = tt;
   short = tt;
@@ -280,7 +317,7 @@ pub scan-failed : (old new : SourceSeen) (e : SourceFailed) → SizeAnswers old 
 scan-failed old new e h = record {
   told = if_told old.bytes _ (λ bs is. tt);
   within = if_told old.bytes _ (λ bs is. tt);
-  loads = if_told old.bytes _ (λ bs is. grows-same old.log new.log (λ load. All (Misses load) (frames_before bs).blocks) h.log);
+  loads = if_told old.bytes _ (λ bs is. grows-same old.log new.log (IsOfHeads bs (frames_before bs)) h.log);
   unread = if_told old.bytes _ (λ bs is large. h.log);
   numbered = tt;
   short = tt;

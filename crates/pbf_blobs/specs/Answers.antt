@@ -13,15 +13,15 @@ use Rattle.pbf_blobs.specs.declared.stop.ScanStop.{ScanStop}
 use Rattle.pbf_blobs.specs.declared.stop.ScanStop.TheVariants as stops
 use Rattle.pbf_blobs.specs.declared.stop.FrameStop.{FrameStop}
 use Rattle.pbf_blobs.specs.declared.stop.FrameStop.TheVariants as frame_stops
-use Rattle.pbf_blobs.specs.Frames.{frames_before, frames_of}
+use Rattle.pbf_blobs.specs.Frames.{Frames, body_from, reach, frames_before, frames_of}
 
 -- the end of a scan at a frame
-abbrev pub damaged : ℕ → Why → ScanStop
-damaged n reason = stops.Damage (record { block = n; why = reason })
+abbrev pub damage_at : ℕ → Why → ScanStop
+damage_at n reason = stops.Damage (record { block = n; why = reason })
 
 abbrev pub stop_of : ℕ → FrameStop → ScanStop
 stop_of n frame_stops.Failed = stops.Failed
-stop_of n (frame_stops.Bad reason) = damaged n reason
+stop_of n (frame_stops.Bad reason) = damage_at n reason
 
 -- a told log grows by loads of which P holds
 abbrev pub Grows : Option (List (ℕ × ℕ)) → Option (List (ℕ × ℕ)) → (ℕ × ℕ → Type 0) → Type 0
@@ -32,9 +32,13 @@ Grows (Some loads) new P = (more : List (ℕ × ℕ)) × (new ≡ Some (loads ++
 abbrev pub Misses : ℕ × ℕ → BlockAt → Type 0
 Misses load block = (load.0 + load.1 ≤ block.at) ⊎ (block.at + block.len ≤ load.0)
 
--- a load that lies between a place and the body of the frame there
-abbrev pub IsBefore : ℕ → Result BlockAt Why → ℕ × ℕ → Type 0
-IsBefore at found load = (at ≤ load.0) × IfOk found (λ block. load.0 + load.1 ≤ block.at)
+-- a load that lies in the length and the header of the frame at a place
+abbrev pub IsInHead : List ℕ → ℕ → ℕ × ℕ → Type 0
+IsInHead bytes at load = (at ≤ load.0) × (load.0 + load.1 ≤ body_from bytes at)
+
+-- a load that touches no body that stands before the first fault, and no byte behind the header of the frame with the fault
+abbrev pub IsOfHeads : List ℕ → Frames → ℕ × ℕ → Type 0
+IsOfHeads bytes frames load = All (Misses load) frames.blocks × (load.0 + load.1 ≤ reach bytes frames)
 
 -- what was read is what the extract's bytes give, unless the source failed
 abbrev pub Reads : {A : Type 0} → Result A FrameStop → Result A Why → Type 0
@@ -91,8 +95,9 @@ pub record ScanAnswers (old new : SourceSeen) (result : Result Index ScanStop) :
   -- where the source tells its bytes: exactly the frames, or exactly their first fault
   pub told : IfSome old.bytes (λ extract. Tells result (frames_of extract))
   pub within : IfSome old.bytes (λ extract. IfOk result (λ index. All (IsShort (length extract)) index.blocks))
-  -- no load touches a body that stands before the first fault; an extract that is too long is not loaded at all
-  pub loads : IfSome old.bytes (λ extract. Grows old.log new.log (λ load. All (Misses load) (frames_before extract).blocks))
+  -- no body is loaded, whatever its type, and nothing behind the header of the first frame with a fault, as elements before
+  -- any header; an extract that is too long is not loaded at all
+  pub loads : IfSome old.bytes (λ extract. Grows old.log new.log (IsOfHeads extract (frames_before extract)))
   pub unread : IfSome old.bytes (λ extract. 2 ^ 40 < length extract → new.log ≡ old.log)
   -- of every source
   pub numbered : IfOk result (λ index. IsNumbered index.blocks)

@@ -1,15 +1,13 @@
 -- The body of a frame: a blob, whose raw block is read (fileformat.proto, Blob).
-use Rattle.std.specs.Prelude.{ℕ, ◌==◌, ◌&&◌, ◌||◌, not, nat_le, Bool, false, if◌then◌else◌, Option, None, Some, Result, Ok, Err, List, length}
+use Rattle.std.specs.Prelude.{ℕ, ◌==◌, ◌&&◌, not, nat_le, Bool, if◌then◌else◌, Option, None, Some, Result, Ok, Err, List, length}
 use Rattle.std.specs.List.{list_any}
-use Rattle.std.specs.Option.{option_or, option_copied}
 use Rattle.std.specs.Borrow.{Bor}
 use Rattle.tb_types.specs.declared.damage.Why.{Why}
 use Rattle.tb_types.specs.declared.damage.Why.TheVariants as why
-use Rattle.tb_wire.specs.declared.varint.Wire.{Wire}
 use Rattle.tb_wire.specs.Field.{Entry}
 use Rattle.tb_wire.specs.Message.{message}
-use Rattle.pbf_blobs.specs.declared.blob.Met.{Met}
-use Rattle.pbf_blobs.specs.Fields.{is_text, is_number, text_in, last_of, ◌>>=◌, or_wire}
+use Rattle.tb_types.specs.Results.{◌>>=◌}
+use Rattle.pbf_blobs.specs.Fields.{is_text, is_number, text_in, last_of, or_wire}
 
 -- a field with a compressed block: zlib, lzma, bzip2, lz4 or zstd
 abbrev pub is_compressed : Entry → Bool
@@ -35,29 +33,7 @@ raw_in fields =
 unfoldable pub raw_of : List ℕ → Result (List ℕ) Why
 raw_of body = or_wire (message body) >>= raw_in
 
--- what the code notes of the fields: the last raw block, and whether a compressed or a mistyped field stands
-pub record MetSeen : Type 0 where
-  pub raw : Option (List ℕ)
-  pub compressed : Bool
-  pub mistyped : Bool
-
-abbrev pub nothing : MetSeen
-nothing = record { raw = None; compressed = false; mistyped = false }
-
-abbrev pub note : MetSeen → Entry → MetSeen
-note met f = record { raw = option_or (text_in 1 f) met.raw; compressed = met.compressed || is_compressed f; mistyped = met.mistyped || is_mistyped f }
-
-abbrev pub raw_by : MetSeen → Result (List ℕ) Why
-raw_by met = if met.mistyped then Err why.Wire else if met.compressed then Err why.Compressed else fitting met.raw
-
--- the same without where the bytes lie
-abbrev pub seen : Met → MetSeen
-seen met = record { raw = option_copied met.raw; compressed = met.compressed; mistyped = met.mistyped }
-
-abbrev pub seen_met : Result Met Wire → Result MetSeen Wire
-seen_met (Ok met) = Ok (seen met)
-seen_met (Err e) = Err e
-
+-- what the code answers, without where the bytes lie
 abbrev pub seen_raw : Result (Bor (List ℕ)) Why → Result (List ℕ) Why
 seen_raw (Ok raw) = Ok raw.now
 seen_raw (Err e) = Err e

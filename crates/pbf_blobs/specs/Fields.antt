@@ -50,18 +50,7 @@ number_in n f = if f.number == n then as_number f.value else None
 abbrev pub last_of : {A : Type 0} → (Entry → Option A) → List Entry → Option A
 last_of read fields = fold (λ found f. option_or (read f) found) None fields
 
--- go on with what was read
-infixl 10 ◌>>=◌
-abbrev pub ◌>>=◌ : {A B : Type 0} → Result A Why → (A → Result B Why) → Result B Why
-(Ok x) >>= f = f x
-(Err e) >>= f = Err e
-
 -- bytes that are no message
 abbrev pub or_wire : {A : Type 0} → Result A Wire → Result A Why
 or_wire (Ok x) = Ok x
 or_wire (Err e) = Err why.Wire
-
--- what is noted of all fields of a message, one after another
-abbrev pub folded : {S : Type 0} → (S → Entry → S) → S → Result (List Entry) Wire → Result S Wire
-folded note s (Ok fields) = Ok (fold note s fields)
-folded note s (Err e) = Err e

@@ -5,7 +5,7 @@ use Rattle.tb_types.specs.declared.damage.Why.{Why}
 use Rattle.tb_types.specs.declared.damage.Why.TheVariants as why
 use Rattle.tb_types.specs.declared.damage.Damage.{Damage}
 use Rattle.pbf_blobs.specs.declared.block.BlockAt.{BlockAt}
-use Rattle.pbf_blobs.specs.Fields.{◌>>=◌}
+use Rattle.tb_types.specs.Results.{◌>>=◌}
 use Rattle.pbf_blobs.specs.declared.header.Header.{Header}
 use Rattle.pbf_blobs.specs.Header.{header_of}
 use Rattle.pbf_blobs.specs.Kinds.{is_header, is_elements}
@@ -17,6 +17,15 @@ short_header len = if nat_lt 65535 len then Err why.HeaderLong else Ok len
 -- the length of the header of the frame that begins at a place
 unfoldable pub header_len_at : List ℕ → ℕ → Result ℕ Why
 header_len_at bytes at = if nat_lt (length bytes) (at + 4) then Err why.Cut else short_header (from_be_bytes w32 (slice_range bytes at (at + 4)))
+
+-- a length, or 0 where there is none
+abbrev pub len_or_0 : Result ℕ Why → ℕ
+len_or_0 (Ok len) = len
+len_or_0 (Err reason) = 0
+
+-- the place where the body of the frame at a place begins, or would begin: behind its length and its header
+abbrev pub body_from : List ℕ → ℕ → ℕ
+body_from bytes at = at + 4 + len_or_0 (header_len_at bytes at)
 
 -- the block of a frame that begins at a place, by the length of its header and by the header
 abbrev pub with_header : List ℕ → ℕ → ℕ → ℕ → Header → Result BlockAt Why
@@ -49,8 +58,8 @@ abbrev pub faulty : ℕ → Why → Frames
 faulty n reason = record { blocks = []; fault = Some (record { block = n; why = reason }) }
 
 -- behind the last frame, whose number would be this
-abbrev pub ended : ℕ → Bool → Frames
-ended n headed = if headed then record { blocks = []; fault = None } else faulty n why.NoHeader
+abbrev pub end_at : ℕ → Bool → Frames
+end_at n headed = if headed then record { blocks = []; fault = None } else faulty n why.NoHeader
 
 -- a block and what follows it
 abbrev pub with_rest : ℕ → (BlockAt → Frames) → Result BlockAt Why → Frames
@@ -61,7 +70,7 @@ with_rest n read_on (Ok block) = let rest = read_on block in record { blocks = b
 unfoldable pub frames_from : List ℕ → ℕ → ℕ → ℕ → Bool → Frames
 frames_from bytes zero n at headed = record { blocks = []; fault = None }
 frames_from bytes (suc most) n at headed =
-    if nat_le (length bytes) at then ended n headed
+    if nat_le (length bytes) at then end_at n headed
     else with_rest n (λ block. frames_from bytes most (n + 1) (block.at + block.len) (headed || is_header block.kind)) (block_at bytes n at headed)
 
 -- the frames of all bytes: frame 2 ^ 24 would be a fault
@@ -79,3 +88,12 @@ outcome blocks (Some damage) = Err damage
 -- the blocks of an extract, or the first fault of its frames
 abbrev pub frames_of : List ℕ → Result (List BlockAt) Damage
 frames_of bytes = let frames = frames_before bytes in outcome frames.blocks frames.fault
+
+-- the end of the last of these blocks, or this place where there is none
+abbrev pub end_of : ℕ → List BlockAt → ℕ
+end_of at [] = at
+end_of at (block ∷ more) = end_of (block.at + block.len) more
+
+-- behind the header of the first frame with a fault, which follows the blocks before it
+abbrev pub reach : List ℕ → Frames → ℕ
+reach bytes frames = body_from bytes (end_of 0 frames.blocks)

@@ -4,4 +4,5 @@ pub mod Fields
 pub mod Frames
 pub mod Header
 pub mod Kinds
-pub mod Rows
+pub mod Messages
+pub mod Worked

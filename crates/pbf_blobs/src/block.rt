@@ -15,14 +15,14 @@ pub enum BlockKind {
 }
 
 /// It is that of a header frame.
-pub fn is_header(kind: BlockKind) -> bool
+pub(crate) fn is_header(kind: BlockKind) -> bool
     ensures { result ≡ is_header kind }
 {
     matches!(kind, BlockKind::Header)
 }
 
 /// It is that of a data frame.
-pub fn is_elements(kind: BlockKind) -> bool
+pub(crate) fn is_elements(kind: BlockKind) -> bool
     ensures { result ≡ is_elements kind }
 {
     matches!(kind, BlockKind::Elements)

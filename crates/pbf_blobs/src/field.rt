@@ -6,21 +6,21 @@ ghost use Rattle.pbf_blobs.specs.Fields.{is_text, is_number, text_in, number_in}
 use tb_wire::{Field, FieldValue};
 
 /// Its value is bytes.
-pub fn is_text(field: &Field<'_>) -> bool
+pub(crate) fn is_text(field: &Field<'_>) -> bool
     ensures { result ≡ is_text (entry_of field.now) }
 {
     matches!(field.value, FieldValue::Bytes(_))
 }
 
 /// Its value is a varint.
-pub fn is_number(field: &Field<'_>) -> bool
+pub(crate) fn is_number(field: &Field<'_>) -> bool
     ensures { result ≡ is_number (entry_of field.now) }
 {
     matches!(field.value, FieldValue::Varint(_))
 }
 
 /// The bytes of a field, if it has this number and bytes.
-pub fn text_in<'a>(number: u32, field: &Field<'a>) -> Option<&'a [u8]>
+pub(crate) fn text_in<'a>(number: u32, field: &Field<'a>) -> Option<&'a [u8]>
     ensures { option_copied result ≡ text_in number (entry_of field.now) }
 {
     match field.value {
@@ -30,7 +30,7 @@ pub fn text_in<'a>(number: u32, field: &Field<'a>) -> Option<&'a [u8]>
 }
 
 /// The varint of a field, if it has this number and a varint.
-pub fn number_in(number: u32, field: &Field<'_>) -> Option<u64>
+pub(crate) fn number_in(number: u32, field: &Field<'_>) -> Option<u64>
     ensures { result ≡ number_in number (entry_of field.now) }
 {
     match field.value {

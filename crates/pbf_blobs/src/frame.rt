@@ -1,7 +1,7 @@
 ghost use Rattle.std.specs.Prelude.{◌≡◌, ◌+◌, ◌^◌, ◌≤◌, ◌<◌, length, slice_range, IfOk, IfSome};
 ghost use Rattle.pbf_blobs.specs.Header.{header_of};
 ghost use Rattle.pbf_blobs.specs.Frames.{header_len_at, frame_at, block_at};
-ghost use Rattle.pbf_blobs.specs.Answers.{ReadAnswers, IsBefore, FitsFrame};
+ghost use Rattle.pbf_blobs.specs.Answers.{ReadAnswers, IsInHead, FitsFrame};
 
 use crate::block::{BlockAt, is_elements};
 use crate::header::{Header, header_of};
@@ -13,7 +13,7 @@ use tb_types::Why;
 /// The block of the frame with this number that begins at a place of an extract of `size` bytes; `headed` where a header
 /// frame came before. `FileLong` at frame 2^24, `NoHeader` where elements stand before any header, and else why the bytes
 /// are no frame. `room` serves for its header.
-pub fn block_at<R: Source>(
+pub(crate) fn block_at<R: Source>(
     source: &mut R,
     size: u64,
     no: u32,
@@ -25,7 +25,7 @@ pub fn block_at<R: Source>(
     requires small { size ≤ 2 ^ 40 }
     requires told { IfSome (R.seen source.old).bytes (λ bytes. length bytes ≡ size) }
     requires room { length room.old ≡ 65535 }
-    ensures answers { ReadAnswers (R.seen source.old) (R.seen source.new) result (λ bytes. block_at bytes no at headed) (λ bytes load. IsBefore at (block_at bytes no at headed) load) }
+    ensures answers { ReadAnswers (R.seen source.old) (R.seen source.new) result (λ bytes. block_at bytes no at headed) (λ bytes load. IsInHead bytes at load) }
     ensures fits { IfOk result (λ block. FitsFrame size no at block) }
     ensures few { IfOk result (λ block. no < 2 ^ 24) }
 {
@@ -55,7 +55,7 @@ fn frame_at<R: Source>(
     requires small { size ≤ 2 ^ 40 }
     requires told { IfSome (R.seen source.old).bytes (λ bytes. length bytes ≡ size) }
     requires room { length room.old ≡ 65535 }
-    ensures answers { ReadAnswers (R.seen source.old) (R.seen source.new) result (λ bytes. frame_at bytes no at) (λ bytes load. IsBefore at (frame_at bytes no at) load) }
+    ensures answers { ReadAnswers (R.seen source.old) (R.seen source.new) result (λ bytes. frame_at bytes no at) (λ bytes load. IsInHead bytes at load) }
     ensures fits { IfOk result (λ block. FitsFrame size no at block) }
 {
     let len = match header_len(source, size, at) {

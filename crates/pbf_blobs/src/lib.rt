@@ -3,7 +3,7 @@
 //! An extract is a run of frames, each the length of a header, the header and a body (fileformat.proto). `scan` goes from
 //! header to header and touches no body. Read `numbers` (fields and limits), `block` (what an index holds), `field` (what
 //! a field says), `header` and `blob` (the two messages), then `frame` (one frame) and `walk` (all of them).
-//! `rows` has the cases that the definitions were checked on, and the limits that no test reaches.
+//! `worked` has the cases that the definitions were checked on, and the limits that no test reaches.
 #![tactic(auto)]
 
 mod blob;
@@ -11,16 +11,17 @@ mod block;
 mod field;
 mod frame;
 mod header;
+mod message;
 mod numbers;
-mod rows;
 mod stop;
 mod walk;
+mod worked;
 
 pub use blob::raw_of;
 pub use block::{BlockAt, BlockKind, Index};
-pub use rows::{frames_are_limited, worked_rows};
 pub use stop::ScanStop;
 pub use walk::scan;
+pub use worked::{frames_are_limited, worked_cases};
 
 #[cfg(test)]
 mod tests;

@@ -1,6 +1,6 @@
 ghost use Rattle.std.specs.Prelude.{◌≡◌};
 ghost use Rattle.pbf_blobs.specs.declared.stop.ScanStop.TheVariants as stops;
-ghost use Rattle.pbf_blobs.specs.Answers.{stop_of, damaged};
+ghost use Rattle.pbf_blobs.specs.Answers.{stop_of, damage_at};
 
 use std::alloc::AllocError;
 use tb_types::{Damage, Memory, Why};
@@ -18,7 +18,7 @@ pub enum ScanStop {
 
 /// Why a frame is not read.
 #[derive(Clone, Copy, Debug, PartialEq, Eq)]
-pub enum FrameStop {
+pub(crate) enum FrameStop {
     /// The source failed: its count of faults rose.
     Failed,
     /// The bytes are no frame that may stand there.
@@ -42,18 +42,18 @@ impl From<Memory> for ScanStop {
 }
 
 /// The end of a scan at a frame.
-pub fn stop_of(no: u32, stop: FrameStop) -> ScanStop
+pub(crate) fn stop_of(no: u32, stop: FrameStop) -> ScanStop
     ensures { result ≡ stop_of no stop }
 {
     match stop {
         FrameStop::Failed => ScanStop::Failed,
-        FrameStop::Bad(why) => damaged(no, why),
+        FrameStop::Bad(why) => damage_at(no, why),
     }
 }
 
 /// The damage of a frame.
-pub fn damaged(no: u32, why: Why) -> ScanStop
-    ensures { result ≡ damaged no why }
+pub(crate) fn damage_at(no: u32, why: Why) -> ScanStop
+    ensures { result ≡ damage_at no why }
 {
     ScanStop::Damage(Damage { block: no, why })
 }

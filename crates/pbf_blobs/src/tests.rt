@@ -1,8 +1,10 @@
 //! Frames and bodies in memory, as tables.
 
+ghost use Rattle.std.specs.Prelude.{None, refl};
+
 use crate::{BlockAt, BlockKind, ScanStop, raw_of, scan};
 use std::alloc::Global;
-use tb_outside::MemSource;
+use tb_outside::{Failed, MemSource, Source};
 use tb_types::{Damage, Memory, Why};
 use tb_wire::put_len;
 
@@ -186,4 +188,47 @@ fn raw_len(alloc: Global, len: usize) -> Result<Result<usize, Why>, Memory> {
         Ok(raw) => Ok(raw.len()),
         Err(why) => Err(why),
     })
+}
+
+// A frame of the greatest length: a header frame whose body has 33,619,968 bytes.
+const LONG_HEAD: &[u8] = b"\x00\x00\x00\x10\x0a\x09OSMHeader\x18\x80\x80\x84\x10";
+
+const LONG_FRAME: u64 = 33_619_988;
+
+// As many of them as 2^40 bytes hold.
+const LONG_FRAMES: u64 = 32_704;
+
+// A source of such frames, which tells nothing.
+#[derive(Drop)]
+struct LongFrames;
+
+impl Source for LongFrames {
+    ghost seen = { λ _. record { bytes = None; log = None; faults = 0 } };
+
+    ghost same_told = { λ a b. refl };
+
+    fn size(&mut self) -> Result<u64, Failed> {
+        Ok(LONG_FRAMES * LONG_FRAME)
+    }
+
+    fn load(&mut self, at: u64, out: &mut [u8]) -> Result<(), Failed> {
+        let mut place = at % LONG_FRAME;
+        for byte in out {
+            *byte = match LONG_HEAD.get(place as usize) {
+                Some(b) => *b,
+                None => 0,
+            };
+            place = place.wrapping_add(1) % LONG_FRAME;
+        }
+        Ok(())
+    }
+}
+
+#[test]
+fn an_extract_may_have_nearly_2_40_bytes(rt: HostRuntime) -> Result<(), ScanStop> {
+    let index = scan(rt.alloc(), &mut LongFrames)?;
+    let blocks = index.blocks.as_slice();
+    assert!(rt; blocks.len() == 32_704);
+    assert!(rt; blocks[32_703].no == 32_703 && blocks[32_703].at == 32_703 * LONG_FRAME + 20);
+    Ok(())
 }

@@ -4,7 +4,7 @@ ghost use Rattle.pbf_blobs.specs.Answers.{ScanAnswers};
 use crate::block::{Index, is_header};
 use crate::frame::block_at;
 use crate::numbers::{LONGEST_FILE, LONGEST_HEADER};
-use crate::stop::{ScanStop, damaged, stop_of};
+use crate::stop::{ScanStop, damage_at, stop_of};
 use std::alloc::Global;
 use tb_outside::Source;
 use tb_types::{Memory, Seq, Why};
@@ -23,7 +23,7 @@ pub fn scan<R: Source>(alloc: Global, source: &mut R) -> Result<Index, ScanStop>
         Err(_) => return Err(ScanStop::Failed),
     };
     if size > LONGEST_FILE {
-        return Err(damaged(0, Why::FileLong));
+        return Err(damage_at(0, Why::FileLong));
     }
     scan_within(alloc, source, size, &mut room)
 }
@@ -63,7 +63,7 @@ fn scan_within<R: Source>(
         no += 1;
     }
     if !headed {
-        return Err(damaged(no, Why::NoHeader));
+        return Err(damage_at(no, Why::NoHeader));
     }
     Ok(Index { blocks })
 }

@@ -5,4 +5,4 @@ use Rattle.osm_elements.proofs.block.add_groups.Given as goal
 
 abbrev pub invariant-loop-body : goal.invariant-loop-body
 invariant-loop-body l =
-    Going l.fn.gathered l.gathered (groups_in (map (λ b. b.now) l.strings) l.grid (map (λ b. b.now) (drop l.body-index l.bodies))) (groups_in (map (λ b. b.now) l.strings) l.grid (map (λ b. b.now) l.bodies))
+    Going l.fn.found l.found (groups_in (map (λ b. b.now) l.strings) l.granularity (map (λ b. b.now) (drop l.body-index l.bodies))) (groups_in (map (λ b. b.now) l.strings) l.granularity (map (λ b. b.now) l.bodies))

@@ -1,6 +1,6 @@
 use Rattle.std.proofs.Common.{map}
 use Rattle.osm_elements.specs.Fields.{one_body, with_found}
-use Rattle.osm_elements.proofs.Fronts.{with_found-part, part_read, part_stopped, handed_on}
+use Rattle.osm_elements.proofs.Prefixes.{with_found-part, part_read, part_stopped, handed_on}
 use Rattle.osm_elements.proofs.message.bodies.Goals as goal
 
 pub returns-in_err-put_body : goal.returns-in_err-put_body

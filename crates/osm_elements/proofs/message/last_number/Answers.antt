@@ -1,5 +1,5 @@
 use Rattle.osm_elements.specs.Fields.{one_number, last_read}
-use Rattle.osm_elements.proofs.Fronts.{last_read-part, part_read, part_stopped, handed_on}
+use Rattle.osm_elements.proofs.Prefixes.{last_read-part, part_read, part_stopped, handed_on}
 use Rattle.osm_elements.proofs.message.last_number.Goals as goal
 
 pub returns-in_err-last : goal.returns-in_err-last

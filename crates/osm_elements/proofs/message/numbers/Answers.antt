@@ -1,5 +1,5 @@
 use Rattle.osm_elements.specs.Fields.{some_numbers, with_found}
-use Rattle.osm_elements.proofs.Fronts.{with_found-part, part_read, part_stopped, handed_on}
+use Rattle.osm_elements.proofs.Prefixes.{with_found-part, part_read, part_stopped, handed_on}
 use Rattle.osm_elements.proofs.message.numbers.Goals as goal
 
 pub returns-in_err-put_numbers : goal.returns-in_err-put_numbers

@@ -1,5 +1,5 @@
 use Rattle.std.proofs.Common.{sym, arith}
-use Rattle.osm_elements.proofs.Fronts.{field_read, no_field, all_fields}
+use Rattle.osm_elements.proofs.Prefixes.{field_read, no_field, all_fields}
 use Rattle.tb_wire.proofs.Messages.{field_at-end}
 use Rattle.osm_elements.proofs.message.put_fields.Goals as goal
 

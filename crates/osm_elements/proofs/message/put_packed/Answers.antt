@@ -1,5 +1,5 @@
 use Rattle.std.proofs.Common.{arith}
-use Rattle.osm_elements.proofs.Fronts.{number_read, no_number, all_numbers}
+use Rattle.osm_elements.proofs.Prefixes.{number_read, no_number, all_numbers}
 use Rattle.osm_elements.proofs.message.put_packed.Goals as goal
 
 pub loop-at-preserved : goal.loop-at-preserved

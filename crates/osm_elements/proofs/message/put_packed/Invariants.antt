@@ -1,12 +1,12 @@
 use Rattle.std.proofs.Common.{◌≡◌, ◌-◌, ◌≤◌, length}
-use Rattle.tb_wire.specs.Items.{with_front}
+use Rattle.tb_wire.specs.Items.{with_prefix}
 use Rattle.tb_wire.specs.Message.{packed, packed_at}
 use Rattle.osm_elements.proofs.message.put_packed.Given as goal
 
 abbrev pub invariant-loop-at : goal.invariant-loop-at
 invariant-loop-at l = record {
   within : l.at ≤ length l.bytes;
-  told : with_front l.out.items (packed_at l.bytes l.at) ≡ with_front l.fn.out.items (packed l.bytes);
+  told : with_prefix l.out.items (packed_at l.bytes l.at) ≡ with_prefix l.fn.out.items (packed l.bytes);
 }
 
 abbrev pub decreases-loop-at : goal.decreases-loop-at

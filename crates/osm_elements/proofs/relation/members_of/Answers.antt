@@ -3,7 +3,7 @@ use Rattle.std.proofs.lemmas.Int.{to_z-of_z}
 use Rattle.osm_elements.specs.Fields.{with_found}
 use Rattle.osm_elements.specs.Elements.{osm_id, members_of}
 use Rattle.osm_elements.proofs.Differences.{member_read, member_stops, all_members, member_kind}
-use Rattle.osm_elements.proofs.Fronts.{handed_on}
+use Rattle.osm_elements.proofs.Prefixes.{handed_on}
 use Rattle.osm_elements.proofs.relation.members_of.Goals as goal
 
 pub returns-in_err-kind : goal.returns-in_err-kind

@@ -1,12 +1,13 @@
-use Rattle.std.proofs.Common.{map, sym, ◌∙◌}
-use Rattle.osm_elements.proofs.RunSteps.{check_ends, check_passes}
+use Rattle.std.proofs.Common.{◌-◌, arith, map}
+use Rattle.osm_elements.proofs.RunSteps.{runs_step, runs_stop}
+use Rattle.osm_elements.proofs.Prefixes.{handed_on}
 use Rattle.osm_elements.proofs.runs.check_pairs.Goals as goal
 
-pub loop-key-preserved-then-low_32-eq0 : goal.loop-key-preserved-then-low_32-eq0
-loop-key-preserved-then-low_32-eq0 c =
-    check_ends (map (λ b. b.now) c.args.strings.now) c.in-Some.key.now c.in-Some.behind.now _ (sym c.low_32.ensures.value ∙ c.if-low_32-eq0.true) (rw c.in-Some.ensures.cases.0 at c.loop-key.invariant)
+pub returns-in_err-rest : goal.returns-in_err-rest
+returns-in_err-rest c =
+    handed_on _ c.from_residual.result c.in_err-rest.field-0.0 _ _ c.from_residual.ensures.1 (c.in_err-rest.ensures {u = tt})
+    (λ why stop. runs_stop (map (λ b. b.now) c.args.strings.now) c.loop-left.left c.loop-left.rest.now _ why (omega (arith, c.loop-left-test.true)) stop c.loop-left.invariant)
 
-pub loop-key-preserved : goal.loop-key-preserved
-loop-key-preserved c =
-    check_passes (map (λ b. b.now) c.args.strings.now) c.in-Some.key.now c.in-Some-split_first.value.now c.in-Some-split_first.others.now _ (λ z. c.if-low_32-eq0.false (c.low_32.ensures.value ∙ z)) (c.in_ok-check_pair.ensures {u = tt})
-    (rw (c.in-Some.ensures.cases.0, c.in-Some-split_first.ensures.cases.0) at c.loop-key.invariant)
+pub loop-left-preserved : goal.loop-left-preserved
+loop-left-preserved c =
+    runs_step (map (λ b. b.now) c.args.strings.now) c.loop-left.left (c.loop-left.left - 1) c.loop-left.rest.now c.in_ok-rest.rest.now _ (omega (arith, c.loop-left-test.true)) (c.in_ok-rest.ensures {u = tt}) c.loop-left.invariant

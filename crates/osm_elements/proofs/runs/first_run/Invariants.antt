@@ -1,5 +1,5 @@
 use Rattle.std.proofs.Common.{◌≡◌, [], length, map}
-use Rattle.osm_elements.specs.Runs.{first_run}
+use Rattle.osm_elements.specs.Dense.{first_run}
 use Rattle.osm_elements.proofs.runs.first_run.Given as goal
 
 abbrev pub invariant-loop-key : goal.invariant-loop-key

@@ -1,5 +1,5 @@
 use Rattle.std.proofs.Common.{map}
-use Rattle.osm_elements.proofs.Fronts.{handed_on}
+use Rattle.osm_elements.proofs.Prefixes.{handed_on}
 use Rattle.osm_elements.proofs.Walks.{table_joined, table_stops}
 use Rattle.osm_elements.proofs.strings.strings_in.Goals as goal
 

@@ -1,9 +1,9 @@
 use Rattle.std.proofs.Common.{◌≡◌, ◌+◌, [], ◌∷◌, ◌++◌, drop, ap, ◌∙◌, rules, FitsSigned, to_z, of_z, w64}
 use Rattle.std.proofs.lemmas.Int.{to_z-of_z}
 use Rattle.osm_elements.specs.Fields.{with_found}
-use Rattle.osm_elements.specs.Grid.{sums_from}
+use Rattle.osm_elements.specs.Granularity.{sums_from}
 use Rattle.osm_elements.proofs.Differences.{sum_read, sum_stops}
-use Rattle.osm_elements.proofs.Fronts.{handed_on}
+use Rattle.osm_elements.proofs.Prefixes.{handed_on}
 use Rattle.osm_elements.proofs.sums.sums.Goals as goal
 
 pub returns-in_err-next : goal.returns-in_err-next

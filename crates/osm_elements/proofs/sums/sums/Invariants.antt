@@ -1,6 +1,6 @@
 use Rattle.std.proofs.Common.{◌≡◌, drop, pos}
 use Rattle.osm_elements.specs.Fields.{with_found}
-use Rattle.osm_elements.specs.Grid.{sums_from}
+use Rattle.osm_elements.specs.Granularity.{sums_from}
 use Rattle.osm_elements.proofs.sums.sums.Given as goal
 
 abbrev pub invariant-loop-difference : goal.invariant-loop-difference

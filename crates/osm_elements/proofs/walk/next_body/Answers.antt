@@ -1,6 +1,6 @@
 use Rattle.std.proofs.Common.{◌≤◌, length, sym, arith}
 use Rattle.tb_wire.proofs.Messages.{field_at-end}
-use Rattle.osm_elements.proofs.Fronts.{stopped}
+use Rattle.osm_elements.proofs.Prefixes.{stopped}
 use Rattle.osm_elements.proofs.Walks.{body_skipped, body_found, no_body, no_field_there, no_field_left, next_err}
 use Rattle.osm_elements.proofs.walk.next_body.Goals as goal
 use Rattle.osm_elements.proofs.walk.next_body.Goals.{else-loop-at-test, then-loop-at-test+in-Ok-None}

@@ -19,7 +19,7 @@ pub returns-then-size-gt-LONGEST_FILE : goal.returns-then-size-gt-LONGEST_FILE
 returns-then-size-gt-LONGEST_FILE g c =
     let old = g.R.Source.seen c.args.source.now in
     let new = g.R.Source.seen c.size.new.self in
-    subst (λ (r : ScanStop). ScanAnswers old new (Err r)) (sym c.damaged.ensures) (scan-too_long old new c.in-Ok.size c.in-Ok.ensures c.if-size-gt-LONGEST_FILE.true)
+    subst (λ (r : ScanStop). ScanAnswers old new (Err r)) (sym c.damage_at.ensures) (scan-too_long old new c.in-Ok.size c.in-Ok.ensures c.if-size-gt-LONGEST_FILE.true)
 
 pub scan_within-requires-clause-told : goal.scan_within-requires-clause-told
 scan_within-requires-clause-told g c = size-told (g.R.Source.seen c.args.source.now) (g.R.Source.seen c.size.new.self) c.in-Ok.size c.in-Ok.ensures

@@ -45,7 +45,7 @@ pub returns-then-not-headed : goal.returns-then-not-headed
 returns-then-not-headed g c =
     let old = g.R.Source.seen c.args.source.now in
     let new = g.R.Source.seen c.loop-at.source in
-    subst (λ (r : ScanStop). ScanAnswers old new (Err r)) (sym c.damaged.ensures)
+    subst (λ (r : ScanStop). ScanAnswers old new (Err r)) (sym c.damage_at.ensures)
     (scanning-no_header c.args.size old new c.loop-at.blocks c.loop-at.no c.loop-at.at c.loop-at.headed c.requires.small c.requires.told c.loop-at.invariant c.loop-at-test.false c.if-not-headed.true)
 
 pub returns : goal.returns
