@@ -1,0 +1,17 @@
+pub mod Orders
+pub mod Sorts
+pub mod Only
+pub mod Groups
+pub mod Told
+pub mod Fronts
+pub mod Merges
+pub mod Keys
+pub mod Maps
+pub mod Moved
+pub mod Shuffles
+pub mod Kept
+pub mod Members
+pub mod Counts
+pub mod NumberLists
+pub mod Climbing
+pub mod Proved

@@ -1,0 +1,11 @@
+pub mod Sorting
+pub mod Grouping
+pub mod Merging
+pub mod SortingLaws
+pub mod KeyLaws
+pub mod BagLaws
+pub mod NumberLaws
+pub mod GroupingLaws
+pub mod MergingLaws
+pub mod MapLaws
+pub mod Worked
