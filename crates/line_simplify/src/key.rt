@@ -62,7 +62,7 @@ fn cross(a: Grid, b: Grid, p: Grid) -> i64
     product(step(a.x, p.x), step(a.y, b.y)) - product(step(a.y, p.y), step(a.x, b.x))
 }
 
-// The way from one coordinate to another.
+// The step from one coordinate to another, which is negative downward.
 fn step(from: i32, to: i32) -> i64
     requires from { IsCoordinate from }
     requires to { IsCoordinate to }
@@ -72,7 +72,7 @@ fn step(from: i32, to: i32) -> i64
     i64::from(to) - i64::from(from)
 }
 
-// The product of two such ways.
+// The product of two steps.
 fn product(m: i64, n: i64) -> i64
     requires m { unsigned_abs m ≤ 2 ^ 28 }
     requires n { unsigned_abs n ≤ 2 ^ 28 }
@@ -82,11 +82,11 @@ fn product(m: i64, n: i64) -> i64
     m * n
 }
 
-// The square of the way between two coordinates.
-fn square(way: u32) -> u64
-    requires { way ≤ 2 ^ 28 }
-    ensures exact { result ≡ way * way }
+// The square of a difference of coordinates.
+fn square(difference: u32) -> u64
+    requires { difference ≤ 2 ^ 28 }
+    ensures exact { result ≡ difference * difference }
     ensures small { result ≤ 2 ^ 56 }
 {
-    u64::from(way) * u64::from(way)
+    u64::from(difference) * u64::from(difference)
 }

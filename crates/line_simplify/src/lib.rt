@@ -8,8 +8,8 @@
 
 mod farthest;
 mod key;
-mod laws;
 mod path;
+mod worked;
 
-pub use laws::known_paths;
 pub use path::simplify;
+pub use worked::worked_paths;

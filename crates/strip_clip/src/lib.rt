@@ -3,7 +3,7 @@
 //! A tile is where two strips cross, that of its column and that of its row. So a shape is cut by one strip and then by the
 //! other, edge by edge; then what is left is cleaned up, so that each line and ring of a tile has one form. Read `axis`,
 //! `crossing` (where an edge meets a bound) and `strip` (one edge in a strip), then `line` and `ring`, then `clean` and
-//! `tile`, then `cut_line`, `cut_area` and `shape` (a whole shape).
+//! `window`, then `cut_line`, `cut_area` and `shape` (a whole shape).
 #![tactic(auto)]
 
 mod axis;
@@ -11,19 +11,23 @@ mod clean;
 mod crossing;
 mod cut_area;
 mod cut_line;
-mod laws;
+#[cfg(test)]
+mod cut_tests;
 mod line;
 mod ring;
 mod shape;
 mod strip;
 #[cfg(test)]
 mod tests;
-mod tile;
+mod window;
+mod worked;
 
 pub use axis::Axis;
-pub use laws::known_cuts;
+pub use clean::clean_ring;
+pub use cut_area::has_area_left;
 pub use line::strip_line;
 pub use ring::strip_ring;
-pub use shape::cut;
-pub use strip::Strip;
-pub use tile::EXTENT;
+pub use shape::{cut, some_area, some_line};
+pub use strip::{Strip, is_inside, meets, reach};
+pub use window::Window;
+pub use worked::worked_cuts;

@@ -164,3 +164,16 @@ fn dot(a: Grid, p: Grid, q: Grid) -> i128 {
 fn way(from: i32, to: i32) -> i128 {
     i128::from(to).wrapping_sub(i128::from(from))
 }
+
+#[test]
+fn a_long_straight_path_keeps_its_ends(rt: HostRuntime) -> Result<(), Memory> {
+    let alloc = rt.alloc();
+    let mut places = Vec::new(alloc);
+    for i in 0u16..60000 {
+        places.push((i, i))?;
+    }
+    let path = line(alloc, &places)?;
+    let kept = simplify(alloc, &path, 0)?;
+    assert!(rt; kept.as_slice().len() == 2);
+    Ok(())
+}

@@ -1,0 +1,12 @@
+pub mod Cutting
+pub mod EdgeLists
+pub mod Giving
+pub mod Halving
+pub mod Joining
+pub mod Within
+pub mod Narrowing
+pub mod SideEdges
+pub mod SteadyRows
+pub mod Touching
+pub mod Whole
+pub mod Widening

@@ -1,0 +1,6 @@
+pub mod Bounds
+pub mod Given
+pub mod Outlines
+pub mod Pieces
+pub mod Steady
+pub mod Worked
