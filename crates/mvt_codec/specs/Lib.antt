@@ -1,6 +1,15 @@
+pub mod Again
+pub mod Counting
 pub mod Dictionary
+pub mod Grammar
+pub mod Groups
 pub mod Growth
+pub mod Messages
+pub mod Order
+pub mod Reading
 pub mod Tile
 pub mod Uses
 pub mod Value
 pub mod Worked
+pub mod WorkedKeys
+pub mod WorkedReads

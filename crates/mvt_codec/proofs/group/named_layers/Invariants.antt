@@ -1,0 +1,6 @@
+use Rattle.std.proofs.Common.{◌≡◌, ◌++◌}
+use Rattle.mvt_codec.specs.Groups.{named}
+use Rattle.mvt_codec.proofs.group.named_layers.Given as goal
+
+abbrev pub invariant-loop-rows : goal.invariant-loop-rows
+invariant-loop-rows l = l.layers.items ++ named l.rest l.rows-iterator.rest.items ≡ named l.names l.fn.layer_rows.items
