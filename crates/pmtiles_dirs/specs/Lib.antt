@@ -1,0 +1,12 @@
+pub mod Again
+pub mod Archive
+pub mod Back
+pub mod Bounds
+pub mod Contents
+pub mod Directory
+pub mod Fault
+pub mod Header
+pub mod Leaves
+pub mod Meta
+pub mod SeenFields
+pub mod Worked

@@ -1,0 +1,9 @@
+pub mod Adding
+pub mod Comparing
+pub mod Copying
+pub mod Entries
+pub mod Finishing
+pub mod Holding
+pub mod Indexing
+pub mod Placing
+pub mod Searching

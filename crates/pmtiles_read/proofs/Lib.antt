@@ -1,0 +1,5 @@
+pub mod Backing
+pub mod Halving
+pub mod Opening
+pub mod Walking
+pub mod Within
