@@ -11,10 +11,12 @@ mod entry;
 mod pass;
 mod queue;
 mod rule;
+mod worked;
 
 pub use batch::Batch;
 pub use pass::QueuePass;
 pub use queue::BatchQueue;
+pub use worked::worked_order;
 
 #[cfg(test)]
 mod tests;

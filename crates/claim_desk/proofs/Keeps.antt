@@ -1,18 +1,21 @@
 -- Each step keeps the rule of the desk.
-use Rattle.std.proofs.Common.{◌≡◌, ◌≢◌, ⊎_elim, ℕ, suc, ◌+◌, ◌*◌, ◌^◌, ◌%◌, ◌≤◌, ◌<◌, Bool, true, false, true≢false, List, [], ◌∷◌, ◌++◌, set, ap, sym, ◌∙◌, refl, subst, arith, min, Option, Some, None}
+use Rattle.std.proofs.Common.{◌≡◌, ℕ, suc, ◌+◌, ◌*◌, ◌^◌, ◌%◌, ◌≤◌, ◌<◌, Bool, true, false, List, [], ◌∷◌, ◌++◌, set, ap, sym, ◌∙◌, refl, subst, arith, min, Option, Some, None}
 use Rattle.std.specs.Prelude.{slice_index, nat_lt, if◌then◌else◌, sum_by, ◌==◌}
 use Rattle.std.proofs.lemmas.List.Sums.{sum_by_push, sum_by-append}
 use Rattle.std.proofs.lemmas.Bool.{ltb-true, ltb-false}
 use Rattle.std.proofs.lemmas.Bool.Decides.{nat_tests}
+use Rattle.std.proofs.lemmas.Option.{none-some, same_Some}
 use mathlib.Core.Option.{some, some-ne-none}
 use lib.ListN.{get_elem?}
 use Rattle.atomic_table.specs.Table.{State, Me, Allows, Splits, Joins, opening, keeps}
-use Rattle.atomic_table.proofs.Lists.{set_again, at_set}
+use Rattle.atomic_table.proofs.Lists.{set_again}
 use Rattle.tb_types.specs.Bags.{below, total}
-use Rattle.tb_types.proofs.Totals.{total_set, total_push, total_at, total_two, total_le, total_whole, each_set, each_push}
+use Rattle.tb_types.specs.Seats.{one}
+use Rattle.tb_types.proofs.Seats.{before_set, seats_open, seats_stay, seats_split, seats_join, joining, has_all}
+use Rattle.tb_types.proofs.Totals.{total_set, total_push, total_at, total_le, each_set, each_push}
 use Rattle.claim_desk.specs.declared.rule.View.{View}
 use Rattle.claim_desk.specs.Facts.{has_ended, later}
-use Rattle.claim_desk.specs.Rule.{view_of, opener, after_claim, kept_by, given_by, joined, spent, one, IsSound, IsKept, KnowsAll, Told}
+use Rattle.claim_desk.specs.Rule.{count_of, opener, after_claim, kept_by, given_by, joined, spent, IsSound, IsKept, Told}
 
 total_both : (f g : View → ℕ) (vs : List View) → total (λ v. f v + g v) vs ≡ total f vs + total g vs
 total_both f g [] = omega arith
@@ -30,22 +33,7 @@ few n s k =
     let a = total_both (λ v. v.past) (λ v. v.out) s.views in
     let b = total_both (λ v. v.live) (λ v. v.splits) s.views in
     let c = total_times (λ v. one v.first) s.views in
-    let p = k.firsts in let q = k.lives in let r = k.steps in omega arith
-
--- only the first seat counts others
-all_out : (n : ℕ) (s : State ℕ View) (k : IsKept n s) (id : ℕ) (v : View) → get_elem? s.views id ≡ some v → v.first ≡ true → total (λ u. u.out) s.views ≡ v.out
-all_out n s k id v at first =
-    let f = k.firsts in
-    let is : one v.first ≡ 1 = ap one first in
-    total_whole (λ u. one u.first) (λ u. u.out) s.views id v (λ i u e none. (let a = (k.each i u e).few in let b = (k.each i u e).counted in omega arith)) at (omega arith)
-
--- where none is out, there is no other seat
-all_live : (n : ℕ) (s : State ℕ View) (k : IsKept n s) (id : ℕ) (v : View) → get_elem? s.views id ≡ some v → KnowsAll v → total (λ u. u.live) s.views ≡ v.live
-all_live n s k id v at knows =
-    let out = all_out n s k id v at knows.0 in
-    let none = knows.1 in
-    let lives = k.lives in
-    let live = (k.each id v at).first knows.0 in omega arith
+    let p = k.seats.firsts in let q = k.seats.lives in let r = k.steps in omega arith
 
 -- the word after a step
 word_after : (n : ℕ) (s : State ℕ View) (k : IsKept n s) → n ≤ 16777216 → set s.words 0 ((slice_index s.words 0 + 1) % 2 ^ 64) ≡ (k.count + 1) ∷ []
@@ -56,132 +44,103 @@ word_after n s k small =
 
 -- a seat stays sound when another has made a step
 older : (n count : ℕ) (u : View) → IsSound n count u → IsSound n (count + 1) u
-older n count u o = record { limit = o.limit; bounded = o.bounded; counted = o.counted; few = o.few; first = o.first; spent = o.spent; fresh = o.fresh; behind = λ x e. (let b = o.behind x e in omega arith) }
+older n count u o = record { limit = o.limit; bounded = o.bounded; counted = o.counted; few = o.few; spent = o.spent; fresh = o.fresh; behind = λ x e. (let b = o.behind x e in omega arith) }
 
 found_is : (count x : ℕ) → ◌≡◌ {A = Option ℕ} (Some count) (Some x) → x < count + 1
-found_is count x e = let s : count ≡ x = ap value e in omega arith
-  where
-    value : Option ℕ → ℕ
-    value None = count
-    value (Some y) = y
+found_is count x e = let s = same_Some count x e in omega arith
 
-none_is : (x : ℕ) → ◌≡◌ {A = Option ℕ} None (Some x) → ⊥
-none_is x e = subst is_none e tt
-  where
-    is_none : Option ℕ → Type 0
-    is_none None = Unit {0}
-    is_none (Some y) = ⊥
+-- one seat makes a step, the others don't
+stepped : (n : ℕ) (s : State ℕ View) (k : IsKept n s) (id : ℕ) (v w : View) (ws : List ℕ) → get_elem? s.views id ≡ some v → count_of w ≡ count_of v → ws ≡ (k.count + 1) ∷ []
+    → total (λ u. u.past) (set s.views id w) + min (k.count + 1) n ≡ k.count + 1
+    → ((h : ℕ → ℕ) → sum_by h w.drawn + sum_by h (below (min k.count n)) ≡ sum_by h v.drawn + sum_by h (below (min (k.count + 1) n)))
+    → IsSound n (k.count + 1) w → IsKept n record { words = ws; homes = s.homes; views = set s.views id w }
+stepped n s k id v w ws at same is steps drawn ok = record {
+  count = k.count + 1;
+  words = is;
+  seats = seats_stay count_of s.views id v w k.seats at same;
+  steps = steps;
+  draws = λ h. (let t = total_set (λ u. sum_by h u.drawn) s.views id v w at in let d = k.draws h in let e = drawn h in omega arith);
+  each = each_set (IsSound n (k.count + 1)) s.views id w ok (λ i u e. older n k.count u (k.each i u e));
+}
 
 -- a step that finds a number below the limit
-draws_number : (n : ℕ) (s : State ℕ View) (k : IsKept n s) (id : ℕ) (v : View) (ws : List ℕ) → get_elem? s.views id ≡ some v → 0 < v.live → IsSound n k.count v → k.count < n → ws ≡ (k.count + 1) ∷ []
-    → IsKept n record { words = ws; homes = s.homes; views = set s.views id (view_of v.limit v.first v.live v.out v.splits v.past (Some k.count) (v.drawn ++ k.count ∷ [])) }
+draws_number : (n : ℕ) (s : State ℕ View) (k : IsKept n s) (id : ℕ) (v : View) (ws : List ℕ) → get_elem? s.views id ≡ some v → v.live ≡ 1 → IsSound n k.count v → k.count < n → ws ≡ (k.count + 1) ∷ []
+    → IsKept n record { words = ws; homes = s.homes; views = set s.views id (record v { seen = Some k.count; drawn = v.drawn ++ k.count ∷ [] }) }
 draws_number n s k id v ws at live ok more is =
-    let w = view_of v.limit v.first v.live v.out v.splits v.past (Some k.count) (v.drawn ++ k.count ∷ []) in
-    let steps = total_set (λ u. u.past) s.views id v w at in
-    let firsts = total_set (λ u. one u.first) s.views id v w at in
-    let lives = total_set (λ u. u.live) s.views id v w at in
-    let outs = total_set (λ u. u.out) s.views id v w at in
-    let a = k.firsts in let b = k.lives in let c = k.steps in
-    let none : v.past ≡ 0 = let t = total_at (λ u. u.past) s.views id v at in omega arith in
+    let w : View = record v { seen = Some k.count; drawn = v.drawn ++ k.count ∷ [] } in
+    let past = total_set (λ u. u.past) s.views id v w at in
+    let c = k.steps in
+    let mine = total_at (λ u. u.past) s.views id v at in
     let was : min k.count n ≡ k.count = omega arith in
     let now : min (k.count + 1) n ≡ suc k.count = omega arith in
-    record {
-      count = k.count + 1;
-      words = is;
-      firsts = omega arith;
-      lives = omega arith;
-      steps = omega arith;
-      draws = λ h.
-          let t = total_set (λ u. sum_by h u.drawn) s.views id v w at in
-          let d : total (λ u. sum_by h u.drawn) s.views ≡ sum_by h (below k.count) = k.draws h ∙ ap (λ m. sum_by h (below m)) was in
-          let e : sum_by h (below (min (k.count + 1) n)) ≡ sum_by h (below k.count) + h k.count = ap (λ m. sum_by h (below m)) now ∙ sum_by_push h (below k.count) k.count in
-          let g : sum_by h w.drawn ≡ sum_by h v.drawn + h k.count = sum_by_push h v.drawn k.count in
-          omega arith;
-      each = each_set (IsSound n (k.count + 1)) s.views id w (record { limit = ok.limit; bounded = ok.bounded; counted = ok.counted; few = ok.few; first = ok.first; spent = λ z. absurd (omega arith); fresh = λ _. none; behind = λ x e. found_is k.count x e }) (λ i u e. older n k.count u (k.each i u e));
-    }
+    stepped n s k id v w ws at refl is (omega arith)
+    (λ h. rw (was, now) (let a = sum_by_push h (below k.count) k.count in let b = sum_by_push h v.drawn k.count in omega arith))
+    (record { limit = ok.limit; bounded = ok.bounded; counted = ok.counted; few = ok.few; spent = λ z. absurd (omega arith); fresh = λ _. omega arith; behind = λ x e. found_is k.count x e })
 
 -- a step that finds the limit or more
-finds_end : (n : ℕ) (s : State ℕ View) (k : IsKept n s) (id : ℕ) (v : View) (ws : List ℕ) → get_elem? s.views id ≡ some v → 0 < v.live → IsSound n k.count v → v.past ≡ 0 → n ≤ k.count → ws ≡ (k.count + 1) ∷ []
-    → IsKept n record { words = ws; homes = s.homes; views = set s.views id (view_of v.limit v.first v.live v.out v.splits (v.past + 1) (Some k.count) v.drawn) }
+finds_end : (n : ℕ) (s : State ℕ View) (k : IsKept n s) (id : ℕ) (v : View) (ws : List ℕ) → get_elem? s.views id ≡ some v → v.live ≡ 1 → IsSound n k.count v → v.past ≡ 0 → n ≤ k.count → ws ≡ (k.count + 1) ∷ []
+    → IsKept n record { words = ws; homes = s.homes; views = set s.views id (record v { past = v.past + 1; seen = Some k.count }) }
 finds_end n s k id v ws at live ok first end is =
-    let w = view_of v.limit v.first v.live v.out v.splits (v.past + 1) (Some k.count) v.drawn in
-    let steps = total_set (λ u. u.past) s.views id v w at in
-    let firsts = total_set (λ u. one u.first) s.views id v w at in
-    let lives = total_set (λ u. u.live) s.views id v w at in
-    let outs = total_set (λ u. u.out) s.views id v w at in
-    let a = k.firsts in let b = k.lives in let c = k.steps in
+    let w : View = record v { past = v.past + 1; seen = Some k.count } in
+    let past = total_set (λ u. u.past) s.views id v w at in
+    let c = k.steps in
     let was : min k.count n ≡ n = omega arith in
     let now : min (k.count + 1) n ≡ n = omega arith in
     let counted = ok.counted in
-    let ended : has_ended v.limit (Some k.count) ≡ true = let l = ok.limit live in grind (arith, nat_tests) in
-    record {
-      count = k.count + 1;
-      words = is;
-      firsts = omega arith;
-      lives = omega arith;
-      steps = omega arith;
-      draws = λ h.
-          let t = total_set (λ u. sum_by h u.drawn) s.views id v w at in
-          let d : total (λ u. sum_by h u.drawn) s.views ≡ sum_by h (below n) = k.draws h ∙ ap (λ m. sum_by h (below m)) was in
-          let e : sum_by h (below (min (k.count + 1) n)) ≡ sum_by h (below n) = ap (λ m. sum_by h (below m)) now in
-          omega arith;
-      each = each_set (IsSound n (k.count + 1)) s.views id w (record { limit = ok.limit; bounded = omega arith; counted = counted; few = ok.few; first = ok.first; spent = λ z. absurd (omega arith); fresh = λ e. absurd (grind (arith, nat_tests)); behind = λ x e. found_is k.count x e }) (λ i u e. older n k.count u (k.each i u e));
-    }
-
-claiming : (n slots id : ℕ) (me : Me ℕ View) → n ≤ 16777216 → 0 < me.0.live → has_ended me.0.limit me.0.seen ≡ false
-    → Allows (IsKept n) slots id me 0 (λ m. (m + 1) % 2 ^ 64) (λ found after. after ≡ (after_claim me.0 found, me.1))
-claiming n slots id me small live goes s k homes at fits =
-    let v = me.0 in
-    let found : slice_index s.words 0 ≡ k.count = ap (λ ws. slice_index ws 0) k.words in
-    let w = after_claim v (slice_index s.words 0) in
-    (w, keeps, tt, subst (λ m. IsKept n (record { words = set s.words 0 ((slice_index s.words 0 + 1) % 2 ^ 64); homes = s.homes; views = set s.views id (after_claim v m) })) (sym found) (go (nat_lt k.count v.limit) refl), refl)
-  where
-    ok' : IsSound n k.count me.0
-    ok' = k.each id me.0 at
-
-    go : (b : Bool) → nat_lt k.count me.0.limit ≡ b → IsKept n (record { words = set s.words 0 ((slice_index s.words 0 + 1) % 2 ^ 64); homes = s.homes; views = set s.views id (after_claim me.0 k.count) })
-    go true e =
-        let less : k.count < n = let a = ltb-true _ _ e in let l = ok'.limit live in omega arith in
-        subst (λ (b : Bool). IsKept n (record { words = set s.words 0 ((slice_index s.words 0 + 1) % 2 ^ 64); homes = s.homes; views = set s.views id (if b then view_of me.0.limit me.0.first me.0.live me.0.out me.0.splits me.0.past (Some k.count) (me.0.drawn ++ k.count ∷ []) else view_of me.0.limit me.0.first me.0.live me.0.out me.0.splits (me.0.past + 1) (Some k.count) me.0.drawn) })) (sym e)
-        (draws_number n s k id me.0 _ at live ok' less (word_after n s k small))
-    go false e =
-        let more : n ≤ k.count = let a = ltb-false _ _ e in let l = ok'.limit live in omega arith in
-        subst (λ (b : Bool). IsKept n (record { words = set s.words 0 ((slice_index s.words 0 + 1) % 2 ^ 64); homes = s.homes; views = set s.views id (if b then view_of me.0.limit me.0.first me.0.live me.0.out me.0.splits me.0.past (Some k.count) (me.0.drawn ++ k.count ∷ []) else view_of me.0.limit me.0.first me.0.live me.0.out me.0.splits (me.0.past + 1) (Some k.count) me.0.drawn) })) (sym e)
-        (finds_end n s k id me.0 _ at live ok' (ok'.fresh goes) more (word_after n s k small))
+    stepped n s k id v w ws at refl is (omega arith) (λ h. rw (was, now) refl)
+    (record { limit = ok.limit; bounded = omega arith; counted = counted; few = ok.few; spent = λ z. absurd (omega arith); fresh = λ e. absurd (let l = ok.limit (omega arith) in grind (arith, nat_tests)); behind = λ x e. found_is k.count x e })
 
 -- the step of a claim
 pub claims : (n slots id : ℕ) (me : Me ℕ View) → n ≤ 16777216 → me.0.live ≡ 1 → has_ended me.0.limit me.0.seen ≡ false
     → Allows (IsKept n) slots id me 0 (λ m. (m + 1) % 2 ^ 64) (λ found after. after ≡ (after_claim me.0 found, me.1))
-claims n slots id me small alive goes = claiming n slots id me small (omega arith) goes
+claims n slots id me small live goes s k homes at fits =
+    let v = me.0 in
+    let found : slice_index s.words 0 ≡ k.count = ap (λ ws. slice_index ws 0) k.words in
+    (after_claim v (slice_index s.words 0), keeps, tt, subst (λ m. IsKept n (record { words = next; homes = s.homes; views = set s.views id (after_claim v m) })) (sym found) (go (nat_lt k.count v.limit) refl), refl)
+  where
+    next : List ℕ
+    next = set s.words 0 ((slice_index s.words 0 + 1) % 2 ^ 64)
+
+    After : View → Type 0
+    After w = IsKept n record { words = next; homes = s.homes; views = set s.views id w }
+
+    ok : IsSound n k.count me.0
+    ok = k.each id me.0 at
+
+    go : (b : Bool) → nat_lt k.count me.0.limit ≡ b → After (after_claim me.0 k.count)
+    go true e =
+        let less : k.count < n = let a = ltb-true _ _ e in let l = ok.limit (omega arith) in omega arith in
+        rw e (draws_number n s k id me.0 next at live ok less (word_after n s k small))
+    go false e =
+        let more : n ≤ k.count = let a = ltb-false _ _ e in let l = ok.limit (omega arith) in omega arith in
+        rw e (finds_end n s k id me.0 next at live ok (ok.fresh goes) more (word_after n s k small))
 
 -- a new desk
 pub begins : (n : ℕ) → IsKept n (opening (0 ∷ []) [] (opener n))
 begins n = record {
   count = 0;
   words = refl;
-  firsts = omega arith;
-  lives = omega arith;
+  seats = seats_open count_of (opener n) refl;
   steps = omega arith;
   draws = λ h. let z : min 0 n ≡ 0 = omega arith in sym (ap (λ m. sum_by h (below m)) z);
-  each = each_push (IsSound n 0) [] (opener n) (record { limit = λ _. refl; bounded = omega arith; counted = omega arith; few = omega arith; first = λ _. refl; spent = λ z. absurd (omega arith); fresh = λ _. refl; behind = λ x e. absurd (none_is x e) }) (λ i v e. absurd (some-ne-none v (sym e)));
+  each = each_push (IsSound n 0) [] (opener n) (record { limit = λ _. refl; bounded = omega arith; counted = omega arith; few = omega arith; spent = λ z. absurd (omega arith); fresh = λ _. refl; behind = λ x e. absurd (none-some x e) }) (λ i v e. absurd (some-ne-none v (sym e)));
 }
 
 -- a look at the word
 pub looks : (n slots id : ℕ) (me : Me ℕ View) → me.0.live ≡ 1 → Allows (IsKept n) slots id me 0 (λ m. m) (λ found after. (after ≡ me) × Told me.0 found)
-looks n slots id me alive s k homes at fits =
+looks n slots id me live s k homes at fits =
     let v = me.0 in
-    let live : 0 < v.live = omega arith in
     let ok = k.each id v at in
     let found : slice_index s.words 0 ≡ k.count = ap (λ ws. slice_index ws 0) k.words in
     let same : set s.words 0 (slice_index s.words 0) ≡ k.count ∷ [] = ap (λ ws. set ws 0 (slice_index ws 0)) k.words in
     let views : set s.views id v ≡ s.views = set_again s.views id v at in
-    let is : v.limit ≡ n = ok.limit live in
+    let is : v.limit ≡ n = ok.limit (omega arith) in
     let most : min k.count n ≡ min (slice_index s.words 0) v.limit = omega arith in (
       v,
       keeps,
       tt,
       subst (λ vs. IsKept n (record { words = set s.words 0 (slice_index s.words 0); homes = s.homes; views = vs })) (sym views)
-          (record { count = k.count; words = same; firsts = k.firsts; lives = k.lives; steps = k.steps; draws = k.draws; each = k.each }),
+          (record { count = k.count; words = same; seats = k.seats; steps = k.steps; draws = k.draws; each = k.each }),
       (
         refl,
         record {
@@ -192,36 +151,33 @@ looks n slots id me alive s k homes at fits =
               let mine = total_at (λ u. sum_by h u.drawn) s.views id v at in
               subst (λ m. sum_by h v.drawn ≤ m) (k.draws h ∙ ap (λ m. sum_by h (below m)) most) mine;
           whole = λ knows h.
-              let mine = total_whole (λ u. u.live) (λ u. sum_by h u.drawn) s.views id v (λ i u e none. ap (sum_by h) ((k.each i u e).spent none).0) at (all_live n s k id v at knows) in
-              sym mine ∙ k.draws h ∙ ap (λ m. sum_by h (below m)) most;
+              sym (has_all count_of s.views id v k.seats at knows (λ u. sum_by h u.drawn) (λ i u e none. ap (sum_by h) ((k.each i u e).spent none).0)) ∙ k.draws h ∙ ap (λ m. sum_by h (below m)) most;
           word = λ knows.
               let b = k.steps in
-              let mine = total_whole (λ u. u.live) (λ u. u.past) s.views id v (λ i u e none. ((k.each i u e).spent none).1) at (all_live n s k id v at knows) in omega arith;
+              let mine = has_all count_of s.views id v k.seats at knows (λ u. u.past) (λ i u e none. ((k.each i u e).spent none).1) in omega arith;
         },
       ),
     )
 
 -- a seat more
 pub deals : (n id : ℕ) (v : View) → v.live ≡ 1 → v.first ≡ true → v.splits < 63 → Splits (IsKept n) id v (kept_by v) (given_by v)
-deals n id v alive lead room s k at =
+deals n id v live lead room s k at =
     let ok = k.each id v at in
-    let live : 0 < v.live = omega arith in
     let vs = set s.views id (kept_by v) in
     let split : (f : View → ℕ) → (total f vs + f v ≡ total f s.views + f (kept_by v)) × (total f (vs ++ given_by v ∷ []) ≡ total f vs + f (given_by v)) = λ f. (total_set f s.views id v (kept_by v) at, total_push f vs (given_by v)) in
-    let p = k.firsts in let q = k.lives in let r = k.steps in
+    let r = k.steps in
     let is : one v.first ≡ 1 = ap one lead in
     let bounded = ok.bounded in let counted = ok.counted in
     record {
       count = k.count;
       words = k.words;
-      firsts = (let t = split (λ u. one u.first) in let a = t.0 in let b = t.1 in omega arith);
-      lives = (let t = split (λ u. u.live) in let a = t.0 in let b = t.1 in let o = split (λ u. u.out) in let c = o.0 in let d = o.1 in omega arith);
+      seats = seats_split count_of s.views id v (kept_by v) (given_by v) k.seats at lead refl refl;
       steps = (let t = split (λ u. u.past) in let a = t.0 in let b = t.1 in omega arith);
       draws = λ h. (let t = split (λ u. sum_by h u.drawn) in let a = t.0 in let b = t.1 in let d = k.draws h in omega arith);
       each = each_push (IsSound n k.count) vs (given_by v)
-          (record { limit = λ _. ok.limit live; bounded = omega arith; counted = omega arith; few = omega arith; first = λ f. absurd (true≢false (sym f)); spent = λ z. absurd (omega arith); fresh = λ _. refl; behind = λ x e. absurd (none_is x e) })
+          (record { limit = λ _. ok.limit (omega arith); bounded = omega arith; counted = omega arith; few = omega arith; spent = λ z. absurd (omega arith); fresh = λ _. refl; behind = λ x e. absurd (none-some x e) })
           (each_set (IsSound n k.count) s.views id (kept_by v)
-          (record { limit = ok.limit; bounded = omega arith; counted = omega arith; few = omega arith; first = λ _. alive; spent = λ z. absurd (omega arith); fresh = ok.fresh; behind = ok.behind })
+          (record { limit = ok.limit; bounded = omega arith; counted = omega arith; few = omega arith; spent = λ z. absurd (omega arith); fresh = ok.fresh; behind = ok.behind })
           k.each);
     }
 
@@ -241,37 +197,32 @@ later_behind count (Some y) (Some z) f g x e = go (nat_lt y z) e
 
 -- a seat less
 pub gathers : (n id : ℕ) (v : View) (other : ℕ) (w : View) → v.live ≡ 1 → w.live ≡ 1 → v.first ≡ true → Joins (IsKept n) id v other w (joined v w) spent
-gathers n id v other w alive live_too lead s k at apart there =
-    let was : get_elem? s.views other ≡ some w = ⊎_elim (λ (t : (other ≡ id) × (joined v w ≡ w)). absurd (apart t.0)) (λ (t : (other ≢ id) × (get_elem? s.views other ≡ some w)). t.1) (at_set s.views id other (joined v w) w there) in
+gathers n id v other w live live_too lead s k at apart there =
+    let was : get_elem? s.views other ≡ some w = before_set s.views id other (joined v w) w apart there in
     let ok = k.each id v at in
     let fine = k.each other w was in
     let vs = set s.views id (joined v w) in
     let both : (f : View → ℕ) → (total f vs + f v ≡ total f s.views + f (joined v w)) × (total f (set vs other spent) + f w ≡ total f vs + f spent) = λ f. (total_set f s.views id v (joined v w) at, total_set f vs other w spent there) in
-    let p = k.firsts in let q = k.lives in let r = k.steps in
-    let is : one v.first ≡ 1 = ap one lead in
-    let out = all_out n s k id v at lead in
-    let leads = total_two (λ u. one u.first) s.views other id w v apart was at in
-    let two = total_two (λ u. u.live) s.views other id w v apart was at in
-    let counts = total_two (λ u. u.out) s.views other id w v apart was at in
+    let found = joining count_of s.views id v other w k.seats at lead apart was live_too in
+    let second : one w.first ≡ 0 = ap one found.second in let more : 0 < v.out = found.some_out in
+    let r = k.steps in
     let few = fine.few in
     let x = ok.bounded in let y = fine.bounded in let z = ok.counted in
     let limits : w.limit ≡ v.limit = fine.limit (omega arith) ∙ sym (ok.limit (omega arith)) in
     record {
       count = k.count;
       words = k.words;
-      firsts = (let t = both (λ u. one u.first) in let a = t.0 in let b = t.1 in omega arith);
-      lives = (let t = both (λ u. u.live) in let a = t.0 in let b = t.1 in let o = both (λ u. u.out) in let c = o.0 in let d = o.1 in omega arith);
+      seats = seats_join count_of s.views id v other w (joined v w) spent k.seats at lead apart there live_too refl refl;
       steps = (let t = both (λ u. u.past) in let a = t.0 in let b = t.1 in omega arith);
       draws = λ h. (let t = both (λ u. sum_by h u.drawn) in let a = t.0 in let b = t.1 in let d = k.draws h in let e = sum_by-append h v.drawn w.drawn in omega arith);
       each = each_set (IsSound n k.count) vs other spent
-          (record { limit = λ none. absurd (omega arith); bounded = omega arith; counted = omega arith; few = omega arith; first = λ f. absurd (true≢false (sym f)); spent = λ _. (refl, refl); fresh = λ _. refl; behind = λ x e. absurd (none_is x e) })
+          (record { limit = λ none. absurd (omega arith); bounded = omega arith; counted = omega arith; few = omega arith; spent = λ _. (refl, refl); fresh = λ _. refl; behind = λ x e. absurd (none-some x e) })
           (each_set (IsSound n k.count) s.views id (joined v w)
           (record {
             limit = ok.limit;
             bounded = omega arith;
             counted = omega arith;
             few = ok.few;
-            first = λ _. alive;
             spent = λ none. absurd (omega arith);
             fresh = λ e.
                 let t = ended_later v.limit v.seen w.seen e in

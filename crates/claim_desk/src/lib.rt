@@ -9,9 +9,11 @@
 mod desk;
 mod rule;
 mod seat;
+mod worked;
 
 pub use desk::Desk;
 pub use seat::DeskSeat;
+pub use worked::worked_seats;
 
 #[cfg(test)]
 mod tests;

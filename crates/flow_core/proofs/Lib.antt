@@ -1,10 +1,9 @@
 pub mod BagLemmas
 pub mod KeptLemmas
 pub mod EventLemmas
-pub mod RoomLemmas
+pub mod PlaceLemmas
+pub mod UnitLemmas
 pub mod SettledLemmas
 pub mod ProgressLemmas
-pub mod RunLemmas
 pub mod NextLemmas
-pub mod UnitLemmas
-pub mod WorkedRow
+pub mod RunLemmas

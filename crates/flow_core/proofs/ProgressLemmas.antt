@@ -1,7 +1,7 @@
 -- Where something is left, some lane has an event.
-use Rattle.std.proofs.Common.{◌≡◌, ◌≢◌, ℕ, zero, suc, ◌+◌, ◌<◌, ◌≤◌, inl, inr, Bool, true, false, not, ◌&&◌, cond, nat_lt, nat_le, Option, Some, None, is_some, is_none, IsSome, option_and_then, List, [], ◌∷◌, length, slice_get, subst, ap, refl, ◌∙◌, arith}
+use Rattle.std.proofs.Common.{◌≡◌, ◌≢◌, ℕ, zero, suc, ◌+◌, ◌<◌, ◌≤◌, inl, inr, Bool, true, false, cond, nat_lt, nat_le, Option, Some, None, is_some, IsSome, option_and_then, List, [], ◌∷◌, length, slice_get, subst, ap, refl, ◌∙◌, arith}
 use Rattle.std.specs.List.{sum_by, find}
-use Rattle.std.proofs.lemmas.Bool.{false≢true, false_from_ne_true, and_from, cond-true, lt-ltb, le-leb, cases_eq, cases_lt}
+use Rattle.std.proofs.lemmas.Bool.{false≢true, false_from_ne_true, cond-true, lt-ltb, le-leb, cases_eq, cases_lt}
 use Rattle.std.proofs.lemmas.List.{nil_from_length}
 use Rattle.std.proofs.lemmas.List.Sums.{sum_by-cons, get_or-le-sum_by}
 use Rattle.std.proofs.lemmas.List.Elements.{All-get_or}
@@ -13,9 +13,9 @@ use Rattle.flow_core.specs.declared.lane.Own.TheVariants.{Free, Claimed, Booked,
 use Rattle.flow_core.specs.declared.lane.Work.{Work}
 use Rattle.flow_core.specs.declared.lane.Work.TheVariants.{Idle, Popped, Stored, Emitted}
 use Rattle.flow_core.specs.declared.lane.LaneState.{LaneState}
-use Rattle.flow_core.specs.Lanes.{is_free, is_idle, claimed_unit, booked_unit, loaded_unit, popped_unit, stored_unit, emitted_unit, work_unit, may_claim, may_pop, to_book, to_push, own_left, work_left, over_left, lane_left}
+use Rattle.flow_core.specs.Lanes.{work_unit, own_left, work_left, over_left, lane_left}
 use Rattle.flow_core.specs.State.{CoreState, need_of, left_of}
-use Rattle.flow_core.specs.Events.{lane_of, fitting, unit_at, unit_of, in_order, is_possible}
+use Rattle.flow_core.specs.Events.{lane_of, unit_in, unit_at, unit_of, in_order, is_possible}
 use Rattle.flow_core.specs.Kept.{own_need, unit_need, lane_need, IsKept}
 use Rattle.flow_core.specs.Laws.{SomeLaneMay}
 use Rattle.flow_core.proofs.SettledLemmas.{none_work}
@@ -40,58 +40,42 @@ goes s k l i event unit at place e =
 
 -- whether a lane's own unit is at a stage
 abbrev booked_flag : Own → ℕ
-booked_flag Free = 0
-booked_flag (Claimed unit) = 0
-booked_flag (Booked unit) = 1
-booked_flag (Loaded unit) = 0
+booked_flag (Booked _) = 1
+booked_flag _ = 0
 
 abbrev loaded_flag : Own → ℕ
-loaded_flag Free = 0
-loaded_flag (Claimed unit) = 0
-loaded_flag (Booked unit) = 0
-loaded_flag (Loaded unit) = 1
+loaded_flag (Loaded _) = 1
+loaded_flag _ = 0
 
 abbrev claimed_flag : Own → ℕ
-claimed_flag Free = 0
-claimed_flag (Claimed unit) = 1
-claimed_flag (Booked unit) = 0
-claimed_flag (Loaded unit) = 0
+claimed_flag (Claimed _) = 1
+claimed_flag _ = 0
 
 is_booked : (own : Own) → 0 < booked_flag own → (unit : ℕ) × (own ≡ Booked unit)
-is_booked Free h = absurd (omega arith)
-is_booked (Claimed _) h = absurd (omega arith)
 is_booked (Booked unit) h = (unit, refl)
-is_booked (Loaded _) h = absurd (omega arith)
+is_booked _ h = absurd (omega arith)
 
 is_loaded : (own : Own) → 0 < loaded_flag own → (unit : ℕ) × (own ≡ Loaded unit)
-is_loaded Free h = absurd (omega arith)
-is_loaded (Claimed _) h = absurd (omega arith)
-is_loaded (Booked _) h = absurd (omega arith)
 is_loaded (Loaded unit) h = (unit, refl)
+is_loaded _ h = absurd (omega arith)
 
 is_claimed : (own : Own) → 0 < claimed_flag own → (unit : ℕ) × (own ≡ Claimed unit)
-is_claimed Free h = absurd (omega arith)
 is_claimed (Claimed unit) h = (unit, refl)
-is_claimed (Booked _) h = absurd (omega arith)
-is_claimed (Loaded _) h = absurd (omega arith)
-
-not_booked : (own : Own) → booked_flag own ≡ 0 → is_none (booked_unit own) ≡ true
-not_booked Free e = refl
-not_booked (Claimed _) e = refl
-not_booked (Booked _) e = absurd (omega arith)
-not_booked (Loaded _) e = refl
+is_claimed _ h = absurd (omega arith)
 
 needs_none : (needs : List ℕ) (own : Own) → booked_flag own ≡ 0 → loaded_flag own ≡ 0 → own_need needs own ≡ 0
-needs_none needs Free e f = refl
-needs_none needs (Claimed _) e f = refl
 needs_none needs (Booked _) e f = absurd (omega arith)
 needs_none needs (Loaded _) e f = absurd (omega arith)
+needs_none needs _ e f = refl
 
 has_none : (own : Own) → booked_flag own ≡ 0 → loaded_flag own ≡ 0 → claimed_flag own ≡ 0 → own ≡ Free
 has_none Free e f g = refl
-has_none (Claimed _) e f g = absurd (omega arith)
-has_none (Booked _) e f g = absurd (omega arith)
-has_none (Loaded _) e f g = absurd (omega arith)
+has_none _ e f g = absurd (omega arith)
+
+-- what a lane that works nothing may pop
+pops_front : (k : ℕ) (s : CoreState) (own : Own) (over : Bool) → booked_flag own ≡ 0 → unit_in (Pop k) s own Idle over ≡ slice_get s.queue 0
+pops_front k s (Booked _) over e = absurd (omega arith)
+pops_front k s _ over e = refl
 
 not_over : (over : Bool) → 0 < over_left over → over ≡ false
 not_over true h = absurd (omega arith)
@@ -106,36 +90,31 @@ module _ (s : CoreState) (k : ℕ) (l : LaneState) (at : slice_get s.lanes k ≡
 
   work_goes : (work : Work) → 0 < work_left work → l.work ≡ work → SomeLaneMay s
   work_goes Idle h e = absurd (omega arith)
-  work_goes (Popped unit) h e = goes s k l 4 (Put k) unit at refl (here (Put k) unit refl (ap popped_unit e))
-  work_goes (Stored unit) h e = goes s k l 1 (Emit k) unit at refl (here (Emit k) unit refl (ap stored_unit e))
-  work_goes (Emitted unit) h e = goes s k l 0 (Give k) unit at refl (here (Give k) unit refl (ap emitted_unit e))
+  work_goes (Popped unit) h e = goes s k l 4 (Put k) unit at refl (here (Put k) unit refl (ap (λ x. unit_in (Put k) s l.own x l.over) e))
+  work_goes (Stored unit) h e = goes s k l 1 (Emit k) unit at refl (here (Emit k) unit refl (ap (λ x. unit_in (Emit k) s l.own x l.over) e))
+  work_goes (Emitted unit) h e = goes s k l 0 (Give k) unit at refl (here (Give k) unit refl (ap (λ x. unit_in (Give k) s l.own x l.over) e))
+
+  -- what it is about, by what the lane has in hand
+  by_hands : (event : Event) (own : Own) (work : Work) (over : Bool) (unit : ℕ) → lane_of event ≡ k → l.own ≡ own → l.work ≡ work → l.over ≡ over → unit_in event s own work over ≡ Some unit → unit_of event s ≡ Some unit
+  by_hands event own work over unit e a b c f =
+      here event unit e (ap (λ x. unit_in event s x l.work l.over) a ∙ ap (λ x. unit_in event s own x l.over) b ∙ ap (λ x. unit_in event s own work x) c ∙ f)
 
   load_goes : (unit : ℕ) → l.own ≡ Booked unit → SomeLaneMay s
-  load_goes unit e = goes s k l 2 (Load k) unit at refl (here (Load k) unit refl (ap booked_unit e))
+  load_goes unit own = goes s k l 2 (Load k) unit at refl (by_hands (Load k) (Booked unit) l.work l.over unit refl own refl refl refl)
 
   push_goes : (unit : ℕ) → l.own ≡ Loaded unit → l.work ≡ Idle → length s.queue < s.capacity → SomeLaneMay s
   push_goes unit own work room =
-      let a : to_push l ≡ Some unit = cond-true (is_idle l.work) (loaded_unit l.own) None (ap is_idle work) ∙ ap loaded_unit own in
-      let b = cond-true (nat_lt (length s.queue) s.capacity) (to_push l) None (lt-ltb (length s.queue) s.capacity room) in
-      goes s k l 3 (Push k) unit at refl (here (Push k) unit refl (b ∙ a))
+      goes s k l 3 (Push k) unit at refl (by_hands (Push k) (Loaded unit) Idle l.over unit refl own work refl (cond-true (nat_lt (length s.queue) s.capacity) (Some unit) None (lt-ltb (length s.queue) s.capacity room)))
 
   book_goes : (unit : ℕ) → l.own ≡ Claimed unit → l.work ≡ Idle → s.booked + need_of s.needs unit ≤ s.part → SomeLaneMay s
   book_goes unit own work fits =
-      let a : to_book l ≡ Some unit = cond-true (is_idle l.work) (claimed_unit l.own) None (ap is_idle work) ∙ ap claimed_unit own in
-      let b : fitting s unit ≡ Some unit = cond-true (nat_le (s.booked + need_of s.needs unit) s.part) (Some unit) None (le-leb (s.booked + need_of s.needs unit) s.part fits) in
-      goes s k l 5 (Book k) unit at refl (here (Book k) unit refl (ap (option_and_then (fitting s)) a ∙ b))
+      goes s k l 5 (Book k) unit at refl (by_hands (Book k) (Claimed unit) Idle l.over unit refl own work refl (cond-true (nat_le (s.booked + need_of s.needs unit) s.part) (Some unit) None (le-leb (s.booked + need_of s.needs unit) s.part fits)))
 
   pop_goes : (unit : ℕ) → l.work ≡ Idle → booked_flag l.own ≡ 0 → slice_get s.queue 0 ≡ Some unit → SomeLaneMay s
-  pop_goes unit work own front =
-      let a = and_from (is_idle l.work) (is_none (booked_unit l.own)) (ap is_idle work) (not_booked l.own own) in
-      let b = cond-true (may_pop l) (slice_get s.queue 0) None a in
-      goes s k l 7 (Pop k) unit at refl (here (Pop k) unit refl (b ∙ front))
+  pop_goes unit work own front = goes s k l 7 (Pop k) unit at refl (by_hands (Pop k) l.own Idle l.over unit refl refl work refl (pops_front k s l.own l.over own ∙ front))
 
   claim_goes : l.own ≡ Free → l.work ≡ Idle → l.over ≡ false → SomeLaneMay s
-  claim_goes own work over =
-      let a = and_from (is_free l.own) (is_idle l.work) (ap is_free own) (ap is_idle work) in
-      let b = and_from (is_free l.own && is_idle l.work) (not l.over) a (ap not over) in
-      goes s k l 6 (Claim k) s.next at refl (here (Claim k) s.next refl (cond-true (may_claim l) (Some s.next) None b))
+  claim_goes own work over = goes s k l 6 (Claim k) s.next at refl (by_hands (Claim k) Free Idle false s.next refl own work over refl)
 
 -- sums over the lanes: some lane has what they have, and none has anything of nothing
 sum_some : (f : LaneState → ℕ) (lanes : List LaneState) → 0 < sum_by f lanes → (k : ℕ) × (l : LaneState) × (slice_get lanes k ≡ Some l) × (0 < f l)

@@ -1,21 +1,20 @@
 -- Lists of events, from a start on.
-use Rattle.std.proofs.Common.{length-set, nat_lt, drop, ◌≡◌, inl, inr, ℕ, zero, suc, ◌+◌, ◌*◌, ◌<◌, ◌≤◌, Bool, true, false, cond, Option, Some, None, is_some, option_and_then, option_map, unwrap_or, List, [], ◌∷◌, length, replicate, slice_get, subst, sym, ap, refl, ◌∙◌, arith}
+use Rattle.std.proofs.Common.{drop, ◌≡◌, inl, inr, ℕ, zero, suc, ◌+◌, ◌*◌, ◌<◌, ◌≤◌, Bool, true, false, cond, Option, Some, None, is_some, option_and_then, option_map, unwrap_or, List, [], ◌∷◌, length, replicate, slice_get, sym, ap, refl, ◌∙◌, arith}
 use Rattle.std.specs.List.{sum_by}
 use Rattle.std.proofs.lemmas.Bool.{cases_lt}
 use Rattle.std.proofs.lemmas.List.{drop_all, length-replicate, get_or_past}
 use Rattle.std.proofs.lemmas.List.Sums.{sum_by-cons, sum_by-append}
 use Rattle.std.proofs.lemmas.List.Elements.{All-nil, All-get_or, All-replicate}
 use Rattle.flow_core.specs.declared.event.Event.{Event}
-use Rattle.flow_core.specs.declared.event.Event.TheVariants.{Claim, Book, Load, Push, Pop, Put, Emit, Give}
 use Rattle.flow_core.specs.declared.lane.LaneState.{LaneState}
 use Rattle.flow_core.specs.declared.lane.Entry.{Entry}
 use Rattle.flow_core.specs.Lanes.{fresh_lane, lane_left}
 use Rattle.flow_core.specs.State.{CoreState, start_state, need_of, left_of}
-use Rattle.flow_core.specs.Events.{lane_of, unit_at, claim_effect, over_effect, effect, is_possible}
+use Rattle.flow_core.specs.Events.{lane_of, unit_at, effect, is_possible}
 use Rattle.flow_core.specs.Runs.{step_of, run_of, taken, IsSameMachine}
 use Rattle.flow_core.specs.Kept.{each_lane, own_entry, work_entry, owned, worked, lane_need, IsKept}
 use Rattle.flow_core.specs.Laws.{MayStart, Progresses, HasEnd}
-use Rattle.flow_core.proofs.EventLemmas.{kept_at, left_at}
+use Rattle.flow_core.proofs.EventLemmas.{does_at, same_effect}
 use Rattle.flow_core.proofs.SettledLemmas.{settled_is}
 use Rattle.flow_core.proofs.ProgressLemmas.{goes_on}
 
@@ -33,40 +32,26 @@ module _ (P : Bool → CoreState → Type 0) (event : Event) (s : CoreState) whe
   step_cases stays does = by_lane_at (slice_get s.lanes (lane_of event)) refl stays does
 
 pub kept_step : (event : Event) (s : CoreState) → IsKept s → IsKept (step_of event s)
-kept_step event s h = step_cases (λ _ x. IsKept x) event s h (λ l unit at e. kept_at event s l unit h at e)
+kept_step event s h = step_cases (λ _ x. IsKept x) event s h (λ l unit at e. (does_at event s l unit h at e).kept)
 
-left_step : (event : Event) (s : CoreState) → cond (is_possible s event) 1 0 + left_of (step_of event s) ≡ left_of s
-left_step event s =
-    step_cases (λ b x. cond b 1 0 + left_of x ≡ left_of s) event s (omega arith) (λ l unit at e. let less = left_at event s l unit at e in omega arith)
+left_step : (event : Event) (s : CoreState) → IsKept s → cond (is_possible s event) 1 0 + left_of (step_of event s) ≡ left_of s
+left_step event s h =
+    step_cases (λ b x. cond b 1 0 + left_of x ≡ left_of s) event s (omega arith) (λ l unit at e. let less = (does_at event s l unit h at e).less in omega arith)
 
 pub kept_run : (events : List Event) (s : CoreState) → IsKept s → IsKept (run_of events s)
 kept_run [] s h = h
 kept_run (event ∷ events) s h = kept_run events (step_of event s) (kept_step event s h)
 
-pub left_run : (events : List Event) (s : CoreState) → taken events s + left_of (run_of events s) ≡ left_of s
-left_run [] s = omega arith
-left_run (event ∷ events) s =
-    let here = left_step event s in
-    let rest = left_run events (step_of event s) in omega arith
+pub left_run : (events : List Event) (s : CoreState) → IsKept s → taken events s + left_of (run_of events s) ≡ left_of s
+left_run [] s h = omega arith
+left_run (event ∷ events) s h =
+    let here = left_step event s h in
+    let rest = left_run events (step_of event s) (kept_step event s h) in omega arith
 
 pub progresses : (s : CoreState) → IsKept s → Progresses s
 progresses s h = record { kept = h; goes_on = λ more. goes_on s h more; settled = λ none. settled_is s h none }
 
 -- the parameters stay
-same_claimed : (b : Bool) (k unit : ℕ) (s : CoreState) → IsSameMachine s (cond b (claim_effect k unit s) (over_effect k s))
-same_claimed true k unit s = record { needs = refl; capacity = refl; part = refl; lanes = length-set s.lanes k _ }
-same_claimed false k unit s = record { needs = refl; capacity = refl; part = refl; lanes = length-set s.lanes k _ }
-
-pub same_effect : (event : Event) (unit : ℕ) (s : CoreState) → IsSameMachine s (effect event unit s)
-same_effect (Claim k) unit s = same_claimed (nat_lt unit (length s.needs)) k unit s
-same_effect (Book k) unit s = record { needs = refl; capacity = refl; part = refl; lanes = length-set s.lanes k _ }
-same_effect (Load k) unit s = record { needs = refl; capacity = refl; part = refl; lanes = length-set s.lanes k _ }
-same_effect (Push k) unit s = record { needs = refl; capacity = refl; part = refl; lanes = length-set s.lanes k _ }
-same_effect (Pop k) unit s = record { needs = refl; capacity = refl; part = refl; lanes = length-set s.lanes k _ }
-same_effect (Put k) unit s = record { needs = refl; capacity = refl; part = refl; lanes = length-set s.lanes k _ }
-same_effect (Emit k) unit s = record { needs = refl; capacity = refl; part = refl; lanes = length-set s.lanes k _ }
-same_effect (Give k) unit s = record { needs = refl; capacity = refl; part = refl; lanes = length-set s.lanes k _ }
-
 pub same_self : (s : CoreState) → IsSameMachine s s
 same_self s = record { needs = refl; capacity = refl; part = refl; lanes = refl }
 
@@ -104,6 +89,9 @@ no_entries w f (suc n) j e =
     let a = sum_by-append w (f j fresh_lane) (each_lane f (suc j) (replicate n fresh_lane)) in
     let b = ap (sum_by w) (e j) in
     let r = no_entries w f n (suc j) e in omega arith
+
+pub left_start : (needs : List ℕ) (lanes queue part : ℕ) → left_of (start_state needs lanes queue part) ≡ 8 * length needs + lanes
+left_start needs lanes queue part = let a = sum_ones lane_left lanes refl in omega arith
 
 module _ (needs : List ℕ) (lanes queue part : ℕ) (h : MayStart needs lanes queue part) where
   need_fits : (unit : ℕ) → need_of needs unit ≤ part
@@ -144,14 +132,11 @@ module _ (needs : List ℕ) (lanes queue part : ℕ) (h : MayStart needs lanes q
         popped_of_lanes = All-nil (λ (entry : Entry). entry.lane < length (replicate lanes fresh_lane));
       }
 
-  pub left_start : left_of (start_state needs lanes queue part) ≡ 8 * length needs + lanes
-  left_start = let a = sum_ones lane_left lanes refl in omega arith
-
   pub has_end : (events : List Event) → HasEnd needs lanes queue part events
   has_end events =
       let s = start_state needs lanes queue part in
-      let all = left_run events s in
-      let start = left_start in
+      let all = left_run events s kept_start in
+      let start = left_start needs lanes queue part in
       record {
         counted = omega arith;
         bounded = omega arith;
@@ -162,48 +147,8 @@ module _ (needs : List ℕ) (lanes queue part : ℕ) (h : MayStart needs lanes q
 pub run_end : (events : List Event) (old now : CoreState) (n : ℕ) → length events ≤ n → run_of (drop n events) now ≡ run_of events old → now ≡ run_of events old
 run_end events old now n all is = ap (λ (xs : List Event). run_of xs now) (sym (drop_all n events all)) ∙ is
 
-pub ran : (events : List Event) (old now : CoreState) (n : ℕ) → length events ≤ n → run_of (drop n events) now ≡ run_of events old → taken events old + left_of now ≡ left_of old
-ran events old now n all is =
+pub ran : (events : List Event) (old now : CoreState) (n : ℕ) → IsKept old → length events ≤ n → run_of (drop n events) now ≡ run_of events old → taken events old + left_of now ≡ left_of old
+ran events old now n h all is =
     let rest = ap (λ (xs : List Event). left_of (run_of xs now)) (drop_all n events all) in
     let same = ap left_of is in
-    let total = left_run events old in omega arith
-
--- the state that `start` makes
-module _ (needs ns : List ℕ) (lanes queue part : ℕ) (qs : List ℕ) (ls : List LaneState) (cs ps os ds : List Entry) (n : ns ≡ needs) (q : qs ≡ []) (l : ls ≡ replicate lanes fresh_lane) (c : cs ≡ []) (p : ps ≡ []) (o : os ≡ []) (d : ds ≡ []) where
-  abbrev made : CoreState
-  made =
-      record {
-        needs = ns;
-        capacity = queue;
-        part = part;
-        next = 0;
-        booked = 0;
-        queue = qs;
-        lanes = ls;
-        claims = cs;
-        pushed = ps;
-        popped = os;
-        done = ds;
-      }
-
-  start_is : made ≡ start_state needs lanes queue part
-  start_is = λ i.
-      record {
-        needs = n i;
-        capacity = queue;
-        part = part;
-        next = 0;
-        booked = 0;
-        queue = q i;
-        lanes = l i;
-        claims = c i;
-        pushed = p i;
-        popped = o i;
-        done = d i;
-      }
-
-  pub made_kept : MayStart needs lanes queue part → IsKept made
-  made_kept h = subst (λ (s : CoreState). IsKept s) (sym start_is) (kept_start needs lanes queue part h)
-
-  pub made_left : MayStart needs lanes queue part → left_of made ≡ 8 * length needs + lanes
-  made_left h = ap left_of start_is ∙ left_start needs lanes queue part h
+    let total = left_run events old h in omega arith

@@ -185,35 +185,26 @@ kept_in_lane s lane h =
 -- a lane with nothing left has nothing in hand
 pub none_own : (own : Own) → own_left own ≡ 0 → own ≡ Free
 none_own Free e = refl
-none_own (Claimed _) e = absurd (omega arith)
-none_own (Booked _) e = absurd (omega arith)
-none_own (Loaded _) e = absurd (omega arith)
+none_own _ e = absurd (omega arith)
 
 pub none_work : (work : Work) → work_left work ≡ 0 → work ≡ Idle
 none_work Idle e = refl
-none_work (Popped _) e = absurd (omega arith)
-none_work (Stored _) e = absurd (omega arith)
-none_work (Emitted _) e = absurd (omega arith)
+none_work _ e = absurd (omega arith)
 
-none_owned : (w : Entry → ℕ) (lanes : List LaneState) (j : ℕ) → sum_by lane_left lanes ≡ 0 → sum_by w (each_lane own_entry j lanes) ≡ 0
-none_owned w [] j e = refl
-none_owned w (l ∷ lanes) j e =
+none_in_hand : (w : Entry → ℕ) (unit : LaneState → Option ℕ) → ((l : LaneState) → lane_left l ≡ 0 → unit l ≡ None) → (lanes : List LaneState) (j : ℕ) → sum_by lane_left lanes ≡ 0 → sum_by w (each_lane (λ i l. in_hand i (unit l)) j lanes) ≡ 0
+none_in_hand w unit none [] j e = refl
+none_in_hand w unit none (l ∷ lanes) j e =
     let a = sum_by-cons lane_left l lanes in
-    let own = none_own l.own (omega arith) in
-    let b = ap (λ o. sum_by w (in_hand j (own_unit o))) own in
-    let c = sum_by-append w (own_entry j l) (each_lane own_entry (suc j) lanes) in
+    let b = ap (λ o. sum_by w (in_hand j o)) (none l (omega arith)) in
+    let c = sum_by-append w (in_hand j (unit l)) (each_lane (λ i x. in_hand i (unit x)) (suc j) lanes) in
     let rest : sum_by lane_left lanes ≡ 0 = omega arith in
-    let r = none_owned w lanes (suc j) rest in omega arith
+    let r = none_in_hand w unit none lanes (suc j) rest in omega arith
 
-none_worked : (w : Entry → ℕ) (lanes : List LaneState) (j : ℕ) → sum_by lane_left lanes ≡ 0 → sum_by w (each_lane work_entry j lanes) ≡ 0
-none_worked w [] j e = refl
-none_worked w (l ∷ lanes) j e =
-    let a = sum_by-cons lane_left l lanes in
-    let work = none_work l.work (omega arith) in
-    let b = ap (λ o. sum_by w (in_hand j (work_unit o))) work in
-    let c = sum_by-append w (work_entry j l) (each_lane work_entry (suc j) lanes) in
-    let rest : sum_by lane_left lanes ≡ 0 = omega arith in
-    let r = none_worked w lanes (suc j) rest in omega arith
+none_owned : (w : Entry → ℕ) (lanes : List LaneState) → sum_by lane_left lanes ≡ 0 → sum_by w (owned lanes) ≡ 0
+none_owned w lanes = none_in_hand w (λ l. own_unit l.own) (λ l e. ap own_unit (none_own l.own (omega arith))) lanes 0
+
+none_worked : (w : Entry → ℕ) (lanes : List LaneState) → sum_by lane_left lanes ≡ 0 → sum_by w (worked lanes) ≡ 0
+none_worked w lanes = none_in_hand w (λ l. work_unit l.work) (λ l e. ap work_unit (none_work l.work (omega arith))) lanes 0
 
 none_needed : (needs : List ℕ) (lanes : List LaneState) → sum_by lane_left lanes ≡ 0 → sum_by (lane_need needs) lanes ≡ 0
 none_needed needs [] e = refl
@@ -235,11 +226,11 @@ settled_is s h none =
     let own : IsSameBag s.claims s.pushed = λ w.
     let a = h.own w in
     let b = sum_by-append w (owned s.lanes) s.pushed in
-    let c = none_owned w s.lanes 0 no_lane in omega arith in
+    let c = none_owned w s.lanes no_lane in omega arith in
     let work : IsSameBag s.done s.popped = λ w.
     let a = h.work w in
     let b = sum_by-append w (worked s.lanes) s.done in
-    let c = none_worked w s.lanes 0 no_lane in omega arith in
+    let c = none_worked w s.lanes no_lane in omega arith in
     let m = length s.lanes in
     record {
       units = record {

@@ -1,14 +1,16 @@
 -- The events: when each is possible, and what it does.
-use Rattle.std.specs.Prelude.{◌≡◌, ℕ, ◌+◌, ◌-◌, ◌<◌, ◌≤◌, Bool, if◌then◌else◌, nat_lt, nat_le, Option, Some, None, is_some, IsSome, List, [], ◌∷◌, ◌++◌, length, drop, slice_get}
+use Rattle.std.specs.Prelude.{◌≡◌, ℕ, ◌+◌, ◌-◌, ◌<◌, ◌≤◌, Bool, false, if◌then◌else◌, nat_lt, nat_le, Option, Some, None, is_some, IsSome, List, [], ◌∷◌, ◌++◌, length, drop, slice_get}
 use Rattle.std.specs.Option.{option_and_then, option_map}
 use Rattle.std.specs.List.{find}
 use Rattle.flow_core.specs.declared.event.Event.{Event}
 use Rattle.flow_core.specs.declared.event.Event.TheVariants.{Claim, Book, Load, Push, Pop, Put, Emit, Give}
+use Rattle.flow_core.specs.declared.lane.Own.{Own}
+use Rattle.flow_core.specs.declared.lane.Work.{Work}
 use Rattle.flow_core.specs.declared.lane.Own.TheVariants.{Free, Claimed, Booked, Loaded}
 use Rattle.flow_core.specs.declared.lane.Work.TheVariants.{Idle, Popped, Stored, Emitted}
 use Rattle.flow_core.specs.declared.lane.LaneState.{LaneState}
 use Rattle.flow_core.specs.declared.lane.Entry.{Entry}
-use Rattle.flow_core.specs.Lanes.{may_claim, may_pop, to_book, to_push, booked_unit, popped_unit, stored_unit, emitted_unit, with_own, with_work, with_over}
+use Rattle.flow_core.specs.Lanes.{with_own, with_work, with_over}
 use Rattle.flow_core.specs.State.{CoreState, need_of}
 
 -- the lane that acts
@@ -22,21 +24,21 @@ lane_of (Put lane) = lane
 lane_of (Emit lane) = lane
 lane_of (Give lane) = lane
 
--- the unit, if its need fits beside what is booked
-abbrev pub fitting : CoreState → ℕ → Option ℕ
-fitting state unit = if nat_le (state.booked + need_of state.needs unit) state.part then Some unit else None
+-- The unit that the event is about, if it is possible in a lane with these in hand, which is over or isn't. A claim is about the next unit, also where none is left.
+abbrev pub unit_in : Event → CoreState → Own → Work → Bool → Option ℕ
+unit_in (Claim _) state Free Idle false = Some state.next
+unit_in (Book _) state (Claimed unit) Idle _ = if nat_le (state.booked + need_of state.needs unit) state.part then Some unit else None
+unit_in (Load _) state (Booked unit) _ _ = Some unit
+unit_in (Push _) state (Loaded unit) Idle _ = if nat_lt (length state.queue) state.capacity then Some unit else None
+unit_in (Pop _) state (Booked _) _ _ = None
+unit_in (Pop _) state _ Idle _ = slice_get state.queue 0
+unit_in (Put _) state _ (Popped unit) _ = Some unit
+unit_in (Emit _) state _ (Stored unit) _ = Some unit
+unit_in (Give _) state _ (Emitted unit) _ = Some unit
+unit_in _ _ _ _ _ = None
 
--- The unit that the event is about, if it is possible in a lane that is as given. A claim is about the next unit, also
--- where none is left.
 abbrev pub unit_at : Event → CoreState → LaneState → Option ℕ
-unit_at (Claim _) state lane = if may_claim lane then Some state.next else None
-unit_at (Book _) state lane = option_and_then (fitting state) (to_book lane)
-unit_at (Load _) state lane = booked_unit lane.own
-unit_at (Push _) state lane = if nat_lt (length state.queue) state.capacity then to_push lane else None
-unit_at (Pop _) state lane = if may_pop lane then slice_get state.queue 0 else None
-unit_at (Put _) state lane = popped_unit lane.work
-unit_at (Emit _) state lane = stored_unit lane.work
-unit_at (Give _) state lane = emitted_unit lane.work
+unit_at event state lane = unit_in event state lane.own lane.work lane.over
 
 -- the unit that the event is about; none exactly if the event isn't possible now
 abbrev pub unit_of : Event → CoreState → Option ℕ

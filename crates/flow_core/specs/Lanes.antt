@@ -1,46 +1,12 @@
 -- What a lane has in hand, what it may do with it, and how far it is from done.
-use Rattle.std.specs.Prelude.{ℕ, ◌+◌, Bool, true, false, not, ◌&&◌, if◌then◌else◌, Option, Some, None, is_none, List, slice_set, slice_index_or}
+use Rattle.std.specs.Prelude.{ℕ, ◌+◌, Bool, true, false, Option, Some, None, List, slice_set, slice_index_or}
 use Rattle.flow_core.specs.declared.lane.Own.{Own}
 use Rattle.flow_core.specs.declared.lane.Own.TheVariants.{Free, Claimed, Booked, Loaded}
 use Rattle.flow_core.specs.declared.lane.Work.{Work}
 use Rattle.flow_core.specs.declared.lane.Work.TheVariants.{Idle, Popped, Stored, Emitted}
 use Rattle.flow_core.specs.declared.lane.LaneState.{LaneState}
 
-abbrev pub is_free : Own → Bool
-is_free Free = true
-is_free _ = false
-
-abbrev pub is_idle : Work → Bool
-is_idle Idle = true
-is_idle _ = false
-
--- the lane's own unit, if it is at that stage
-abbrev pub claimed_unit : Own → Option ℕ
-claimed_unit (Claimed unit) = Some unit
-claimed_unit _ = None
-
-abbrev pub booked_unit : Own → Option ℕ
-booked_unit (Booked unit) = Some unit
-booked_unit _ = None
-
-abbrev pub loaded_unit : Own → Option ℕ
-loaded_unit (Loaded unit) = Some unit
-loaded_unit _ = None
-
--- the unit that the lane works, if it is at that stage
-abbrev pub popped_unit : Work → Option ℕ
-popped_unit (Popped unit) = Some unit
-popped_unit _ = None
-
-abbrev pub stored_unit : Work → Option ℕ
-stored_unit (Stored unit) = Some unit
-stored_unit _ = None
-
-abbrev pub emitted_unit : Work → Option ℕ
-emitted_unit (Emitted unit) = Some unit
-emitted_unit _ = None
-
--- the same at whatever stage
+-- the lane's own unit, and the unit that it works
 abbrev pub own_unit : Own → Option ℕ
 own_unit Free = None
 own_unit (Claimed unit) = Some unit
@@ -52,19 +18,6 @@ work_unit Idle = None
 work_unit (Popped unit) = Some unit
 work_unit (Stored unit) = Some unit
 work_unit (Emitted unit) = Some unit
-
--- a lane may claim, and may pop; the unit that it may book, and may push
-abbrev pub may_claim : LaneState → Bool
-may_claim lane = is_free lane.own && is_idle lane.work && not lane.over
-
-abbrev pub may_pop : LaneState → Bool
-may_pop lane = is_idle lane.work && is_none (booked_unit lane.own)
-
-abbrev pub to_book : LaneState → Option ℕ
-to_book lane = if is_idle lane.work then claimed_unit lane.own else None
-
-abbrev pub to_push : LaneState → Option ℕ
-to_push lane = if is_idle lane.work then loaded_unit lane.own else None
 
 -- nothing in hand, and not over
 abbrev pub fresh_lane : LaneState

@@ -6,3 +6,4 @@ pub mod Kept
 pub mod Settled
 pub mod Laws
 pub mod Inside
+pub mod Worked

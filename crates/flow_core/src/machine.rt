@@ -1,55 +1,40 @@
 //! The machine: its state, its start, and its step.
 ghost use Rattle.std.specs.Prelude.{◌≡◌, ◌+◌, ◌≤◌, ◌^◌, ◌↔◌, IsTrue, IsFalse, IfOk, OnOk, OnErr, IfSome, IfNone, None, Some, length, slice_get, nat_lt, if◌then◌else◌};
-ghost use Rattle.flow_core.specs.Lanes.{may_pop, to_push};
 ghost use Rattle.std.specs.List.{All, find};
 ghost use Rattle.flow_core.specs.State.{start_state, left_of, need_of};
-ghost use Rattle.flow_core.specs.Events.{unit_of, unit_at, fitting, after, next_event, is_possible, CanDoNothing, MayDo, IsUnitOf};
+ghost use Rattle.flow_core.specs.Events.{unit_of, after, next_event, is_possible, CanDoNothing, MayDo, IsUnitOf};
 ghost use Rattle.flow_core.specs.Runs.{run_of, taken, IsSameMachine};
 ghost use Rattle.flow_core.specs.Kept.{IsKept};
 ghost use Rattle.flow_core.specs.Laws.{Progresses, SomeLaneMay, IsSettled};
 
 use crate::event::{Event, NotNow};
-use crate::lane::{Entry, LaneState, fresh_lanes};
+use crate::flow::Flow;
 use std::alloc::Global;
-use std::collections::VecDeque;
 use std::marker::Model;
 use tb_types::Memory;
-
-mod effects;
 
 /// How many events a unit is from its claim to its end.
 const UNIT_EVENTS: u64 = 8;
 
-/// Units on their way through the lanes and one queue. Units count from 0.
+/// A machine of lanes and one queue. A contract sees its state.
 #[derive(Drop)]
 pub struct Core {
-    // Each unit's need, the part that needs are booked in, both in bytes, and the queue's places.
-    needs: Vec<u64>,
-    part: u64,
-    capacity: u32,
-    // The next unit to claim, what is booked, and how many events are left.
-    next: u32,
-    booked: u64,
+    flow: Flow,
+    /// How many events are left.
     left: u64,
-    queue: VecDeque<u32>,
-    lanes: Vec<LaneState>,
-    // What all lanes claimed, pushed, popped and did: one list of each kind, with room for each unit once.
-    claims: Vec<Entry>,
-    pushed: Vec<Entry>,
-    popped: Vec<Entry>,
-    done: Vec<Entry>,
 }
 
 impl Model for Core {
-    ghost use Rattle.flow_core.specs.State.{CoreState};
+    ghost use Rattle.std.specs.Prelude.{◌≡◌};
+    ghost use Rattle.flow_core.specs.State.{CoreState, left_of};
 
     ghost Value = { CoreState };
 
     ghost use Rattle.flow_core.specs.Inside.{state_of, IsSound};
 
-    ghost view = { state_of };
+    ghost view = { λ core. state_of core.flow };
 
-    ghost invariant = { IsSound };
+    ghost invariant = { λ core. IsSound core.flow × (core.left ≡ left_of (state_of core.flow)) };
 }
 
 impl Core {
@@ -73,28 +58,9 @@ impl Core {
         ensures start { IfOk result (λ core. core ≡ start_state needs.now lanes queue part) }
         ensures kept { IfOk result (λ core. IsKept core) }
     {
-        let units = needs.len();
-        let needs = Vec::from_slice(alloc, needs)?;
-        let lane_states = fresh_lanes(alloc, lanes)?;
-        let places = VecDeque::with_capacity(alloc, units.min(queue as usize))?;
-        let claims = Vec::with_capacity(alloc, units)?;
-        let pushed = Vec::with_capacity(alloc, units)?;
-        let popped = Vec::with_capacity(alloc, units)?;
-        let done = Vec::with_capacity(alloc, units)?;
-        Ok(Core {
-            needs,
-            part,
-            capacity: queue,
-            next: 0,
-            booked: 0,
-            left: UNIT_EVENTS * units as u64 + u64::from(lanes),
-            queue: places,
-            lanes: lane_states,
-            claims,
-            pushed,
-            popped,
-            done,
-        })
+        let left = UNIT_EVENTS * needs.len() as u64 + u64::from(lanes);
+        let flow = Flow::new(alloc, needs, lanes, queue, part)?;
+        Ok(Core { flow, left })
     }
 
     /// The unit that the event is about, if the event is possible now. A claim is about the next unit, which is the
@@ -104,24 +70,8 @@ impl Core {
         ensures within { IfSome result (λ unit. IsUnitOf event (length self.now.needs) unit) }
         ensures kept { IsKept self.now }
     {
-        let lane = *self.lanes.get(event.lane() as usize)?;
-        self.unit_at(event, lane)
-    }
-
-    // The same in a lane that is as given.
-    fn unit_at(&self, event: Event, lane: LaneState) -> Option<u32>
-        ensures { result ≡ unit_at event self.now lane }
-    {
-        match event {
-            Event::Claim { lane: _ } => lane.may_claim().then_some(self.next),
-            Event::Book { lane: _ } => self.fitting(lane.to_book()?),
-            Event::Load { lane: _ } => lane.own.booked(),
-            Event::Push { lane: _ } => self.pushable(lane),
-            Event::Pop { lane: _ } => self.poppable(lane),
-            Event::Put { lane: _ } => lane.work.popped(),
-            Event::Emit { lane: _ } => lane.work.stored(),
-            Event::Give { lane: _ } => lane.work.emitted(),
-        }
+        let lane = *self.flow.lanes.get(event.lane() as usize)?;
+        self.flow.unit_at(event, lane)
     }
 
     /// Does the event, or says that it isn't possible now, and then nothing changes. Takes no memory.
@@ -136,7 +86,8 @@ impl Core {
         let Some(unit) = self.unit_of(event) else {
             return Err(NotNow);
         };
-        self.act(event, unit);
+        self.flow.act(event, unit);
+        self.left -= 1;
         Ok(())
     }
 
@@ -185,41 +136,5 @@ impl Core {
             }
         }
         None
-    }
-
-    // A unit's need, which is 0 if there is no such unit.
-    fn need(&self, unit: u32) -> u64
-        ensures { result ≡ need_of self.now.needs unit }
-    {
-        self.needs.get(unit as usize).copied().unwrap_or(0)
-    }
-
-    // The unit, if its need fits beside what is booked.
-    fn fitting(&self, unit: u32) -> Option<u32>
-        ensures { result ≡ fitting self.now unit }
-    {
-        (self.need(unit) <= self.part - self.booked).then_some(unit)
-    }
-
-    // The unit that the lane may push, if the queue has a place.
-    fn pushable(&self, lane: LaneState) -> Option<u32>
-        ensures { result ≡ (if nat_lt (length self.now.queue) self.now.capacity then to_push lane else None) }
-    {
-        if self.queue.len() < self.capacity as usize {
-            lane.to_push()
-        } else {
-            None
-        }
-    }
-
-    // The unit at the queue's front, if the lane may pop it.
-    fn poppable(&self, lane: LaneState) -> Option<u32>
-        ensures { result ≡ (if may_pop lane then slice_get self.now.queue 0 else None) }
-    {
-        if lane.may_pop() {
-            self.queue.front().copied()
-        } else {
-            None
-        }
     }
 }

@@ -9,10 +9,10 @@ use Rattle.flow_core.proofs.machine.Core.settled.Goals as goal
 
 pub returns-clause-end : goal.returns-clause-end
 returns-clause-end c = λ t.
-    let left = sym (c.self.invariant.left ∙ ap left_of c.self.view_is) ∙ eqb-true c.self.inside.left 0 t in
-    settled_is c.args.self.now (subst (λ (s : CoreState). IsKept s) c.self.view_is c.self.invariant.kept) left
+    let left = sym (c.self.invariant.1 ∙ ap left_of c.self.view_is) ∙ eqb-true c.self.inside.left 0 t in
+    settled_is c.args.self.now (subst (λ (s : CoreState). IsKept s) c.self.view_is c.self.invariant.0.0) left
 
 pub returns-clause-goes_on : goal.returns-clause-goes_on
 returns-clause-goes_on c = λ f.
-    let left = c.self.invariant.left ∙ ap left_of c.self.view_is in
-    goes_on c.args.self.now (subst (λ (s : CoreState). IsKept s) c.self.view_is c.self.invariant.kept) (λ none. eqb-false c.self.inside.left 0 f (left ∙ none))
+    let left = c.self.invariant.1 ∙ ap left_of c.self.view_is in
+    goes_on c.args.self.now (subst (λ (s : CoreState). IsKept s) c.self.view_is c.self.invariant.0.0) (λ none. eqb-false c.self.inside.left 0 f (left ∙ none))

@@ -1,0 +1,12 @@
+pub mod Bags
+pub mod Closings
+pub mod Growth
+pub mod Fillings
+pub mod Joins
+pub mod Maps
+pub mod Order
+pub mod Searching
+pub mod Seats
+pub mod Squeezing
+pub mod Steps
+pub mod Views

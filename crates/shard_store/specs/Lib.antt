@@ -1,0 +1,10 @@
+pub mod Closing
+pub mod Facts
+pub mod PutAll
+pub mod Ids
+pub mod Join
+pub mod Laws
+pub mod Parts
+pub mod Put
+pub mod Rule
+pub mod Worked
