@@ -46,10 +46,10 @@ with_fields-append found (x ∷ xs) ys = with_fields-append (with_field x.name (
 pub rule_added : (found more : List Field) (layer : ℕ) (rules : List Rule) (i : ℕ) (rule : Rule) (total : List Field) → i < length rules → rule ≡ get_or rules i rule
     → more ≡ with_fields found (own_attributes layer rule) → with_fields found (attributes_in layer (drop i rules)) ≡ total → with_fields more (attributes_in layer (drop (i + 1) rules)) ≡ total
 rule_added found more layer rules i rule total h is added told =
-    let front : drop i rules ≡ rule ∷ drop (i + 1) rules = drop_more rules i rule h ∙ ap (λ r. r ∷ drop (i + 1) rules) (sym is) in
+    let prefix : drop i rules ≡ rule ∷ drop (i + 1) rules = drop_more rules i rule h ∙ ap (λ r. r ∷ drop (i + 1) rules) (sym is) in
     ap (λ fields. with_fields fields (attributes_in layer (drop (i + 1) rules))) added
     ∙ (sym (with_fields-append found (own_attributes layer rule) (attributes_in layer (drop (i + 1) rules)))
-    ∙ (ap (λ rs. with_fields found (attributes_in layer rs)) (sym front) ∙ told))
+    ∙ (ap (λ rs. with_fields found (attributes_in layer rs)) (sym prefix) ∙ told))
 
 names_after : (name : List ℕ) (es : List Entry) → AllByRecursion (λ k. slice_cmp nat_cmp name k.now ≡ Less) (keys_of es) → AllByRecursion (λ n. slice_cmp nat_cmp name n ≡ Less) (map (λ f. f.0) (seen_fields es))
 names_after name [] h = tt

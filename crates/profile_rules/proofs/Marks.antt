@@ -11,17 +11,17 @@ first_of c [] None h = refl
 first_of c (b ∷ bs) None h = rw (ne_eqb b c (λ e. h bs (ap (λ x. x ∷ bs) e)))
 first_of c bs (Some x) h = rw (h, eq-eqb c c refl)
 
-last_is : (c : ℕ) (front : List ℕ) → without_last c (front ++ c ∷ []) ≡ Some front
+last_is : (c : ℕ) (prefix : List ℕ) → without_last c (prefix ++ c ∷ []) ≡ Some prefix
 last_is c [] = rw (eq-eqb c c refl)
 last_is c (x ∷ []) = ap (option_map (λ f. x ∷ f)) (last_is c [])
-last_is c (x ∷ y ∷ front) = ap (option_map (λ f. x ∷ f)) (last_is c (y ∷ front))
+last_is c (x ∷ y ∷ prefix) = ap (option_map (λ f. x ∷ f)) (last_is c (y ∷ prefix))
 
-no_last : (c : ℕ) (bs : List ℕ) → ((front : List ℕ) → bs ≢ front ++ (c ∷ [])) → without_last c bs ≡ None
+no_last : (c : ℕ) (bs : List ℕ) → ((prefix : List ℕ) → bs ≢ prefix ++ (c ∷ [])) → without_last c bs ≡ None
 no_last c [] h = refl
 no_last c (b ∷ []) h = rw (ne_eqb b c (λ e. h [] (ap (λ x. x ∷ []) e)))
-no_last c (b ∷ d ∷ more) h = ap (option_map (λ front. b ∷ front)) (no_last c (d ∷ more) (λ front e. h (b ∷ front) (ap (λ l. b ∷ l) e)))
+no_last c (b ∷ d ∷ more) h = ap (option_map (λ prefix. b ∷ prefix)) (no_last c (d ∷ more) (λ prefix e. h (b ∷ prefix) (ap (λ l. b ∷ l) e)))
 
-pub last_of : (c : ℕ) (bs : List ℕ) (r : Option (Bor (List ℕ))) → MatchOption r ((front : List ℕ) → bs ≢ front ++ (c ∷ [])) (λ x. bs ≡ x.now ++ (c ∷ [])) → option_copied r ≡ without_last c bs
+pub last_of : (c : ℕ) (bs : List ℕ) (r : Option (Bor (List ℕ))) → MatchOption r ((prefix : List ℕ) → bs ≢ prefix ++ (c ∷ [])) (λ x. bs ≡ x.now ++ (c ∷ [])) → option_copied r ≡ without_last c bs
 last_of c bs None h = sym (no_last c bs h)
 last_of c bs (Some x) h = rw (h, last_is c x.now)
 

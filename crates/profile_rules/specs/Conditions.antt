@@ -33,7 +33,7 @@ without_first mark (b ∷ more) = if b == mark then Some more else None
 abbrev pub without_last : ℕ → List ℕ → Option (List ℕ)
 without_last mark [] = None
 without_last mark (b ∷ []) = if b == mark then Some [] else None
-without_last mark (b ∷ c ∷ more) = option_map (λ front. b ∷ front) (without_last mark (c ∷ more))
+without_last mark (b ∷ c ∷ more) = option_map (λ prefix. b ∷ prefix) (without_last mark (c ∷ more))
 
 -- keys and values aren't empty
 abbrev pub filled : List ℕ → Result (List ℕ) ProfileWhy

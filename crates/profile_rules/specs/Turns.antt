@@ -1,11 +1,6 @@
 -- Going on with what was read, also along a list.
-use Rattle.std.specs.Prelude.{Result, Ok, Err, List, [], ◌∷◌, ◌++◌}
-
--- go on with what was read
-infixl 10 ◌>>=◌
-abbrev pub ◌>>=◌ : {A B E : Type 0} → Result A E → (A → Result B E) → Result B E
-(Ok x) >>= f = f x
-(Err e) >>= f = Err e
+use Rattle.std.specs.Prelude.{Result, Ok, List, [], ◌∷◌, ◌++◌}
+pub use Rattle.tb_types.specs.Results.{◌>>=◌}
 
 -- What is read of each, in turn, behind what was read before it. What went before may decide on what is read.
 abbrev pub in_turn : {A B E : Type 0} → (List B → A → Result B E) → List B → List A → Result (List B) E

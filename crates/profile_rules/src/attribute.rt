@@ -11,7 +11,6 @@ use crate::fault::{PartErr, ProfileWhy};
 use crate::key::{ATTRIBUTE_KEYS, Key, has_only, value_at};
 use crate::kinds::text_if;
 use crate::ranges::is_short;
-use crate::words::owned;
 use std::alloc::Global;
 use tb_types::Text;
 use toml::{Table, Value};
@@ -112,7 +111,7 @@ fn attribute_from(
             named(
                 alloc,
                 name.unwrap_or(key),
-                Origin::Tag(owned(alloc, key)?, form),
+                Origin::Tag(Text::copy_of(alloc, key)?, form),
             )
         }
         (None, Some(name), None, Some(value)) => named(alloc, name, Origin::Constant(value)),
@@ -127,7 +126,7 @@ fn named(alloc: Global, name: &str, origin: Origin) -> Result<Attribute, PartErr
     if name.is_empty() {
         return Err(PartErr::Bad(ProfileWhy::Attribute));
     }
-    let name = owned(alloc, name)?;
+    let name = Text::copy_of(alloc, name)?;
     Ok(Attribute { name, origin })
 }
 
@@ -169,7 +168,7 @@ fn constant_of(alloc: Global, value: &Value) -> Result<Constant, PartErr>
     ensures { GivesPart (λ c. c) result (constant_of (view value.now)) }
 {
     match (value.as_str(), value.as_integer(), value.as_bool()) {
-        (Some(text), _, _) => Ok(Constant::Text(owned(alloc, text)?)),
+        (Some(text), _, _) => Ok(Constant::Text(Text::copy_of(alloc, text)?)),
         (None, Some(n), _) => Ok(Constant::Whole(n)),
         (None, None, Some(b)) => Ok(Constant::Truth(b)),
         (None, None, None) => Err(PartErr::Bad(ProfileWhy::Attribute)),

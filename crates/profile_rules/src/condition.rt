@@ -4,7 +4,6 @@ ghost use Rattle.profile_rules.specs.Faults.{GivesPart};
 ghost use Rattle.profile_rules.specs.Conditions.{condition_of, conditions_of, bare, valued, filled, values_of, split_at, without_first, without_last};
 
 use crate::fault::{PartErr, ProfileWhy};
-use crate::words::owned;
 use std::alloc::Global;
 use tb_types::{Seq, Text};
 
@@ -98,7 +97,7 @@ fn filled(alloc: Global, text: &str) -> Result<Text, PartErr>
     if text.is_empty() {
         return Err(PartErr::Bad(ProfileWhy::Condition));
     }
-    Ok(owned(alloc, text)?)
+    Ok(Text::copy_of(alloc, text)?)
 }
 
 // The parts round the first mark in a text, where it has one.

@@ -5,7 +5,6 @@ ghost use Rattle.profile_rules.specs.SeenFields.{seen_fields};
 use crate::attribute::{Attribute, Constant, Origin, ValueForm};
 use crate::parts::Rule;
 use crate::profile::Profile;
-use crate::words::owned;
 use std::alloc::Global;
 use std::collections::BTreeMap;
 use tb_types::{FieldKind, Memory, Seq, Text};
@@ -109,7 +108,7 @@ fn listed(
 {
     let mut fields = Seq::new(alloc);
     for (name, kind) in found.iter() {
-        fields.push((owned(alloc, *name)?, *kind))?;
+        fields.push((Text::copy_of(alloc, *name)?, *kind))?;
     }
     Ok(fields)
 }

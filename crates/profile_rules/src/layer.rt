@@ -13,8 +13,8 @@ use crate::kinds::{required, text_at, whole_at};
 use crate::limits::{USUAL_BUFFER, USUAL_TOLERANCE, WIDEST_BUFFER, WIDEST_TOLERANCE};
 use crate::parts::LayerInfo;
 use crate::ranges::{is_short, within_or};
-use crate::words::owned;
 use std::alloc::Global;
+use tb_types::Text;
 use toml::Table;
 
 /// A layer whose values are of the right kinds.
@@ -80,7 +80,7 @@ fn layer_within(alloc: Global, shape: LayerShape<'_>) -> Result<LayerInfo, PartE
     }
     let buffer = within_or(USUAL_BUFFER, 0, WIDEST_BUFFER, shape.buffer)?;
     let tolerance = within_or(USUAL_TOLERANCE, 0, WIDEST_TOLERANCE, shape.tolerance)?;
-    let id = owned(alloc, shape.id)?;
+    let id = Text::copy_of(alloc, shape.id)?;
     Ok(LayerInfo {
         id,
         buffer,

@@ -28,11 +28,11 @@ mod rule;
 mod spec;
 mod top;
 mod value;
-mod words;
 mod worked;
 
 pub use fault::{Part, ProfileErr, ProfileWhy, Spot};
 pub use field::fields;
+pub use limits::LONGEST_PROFILE;
 pub use one_key::one_rule;
 pub use parts::{Form, LayerInfo};
 pub use profile::{Profile, has_points_only, layers, name, zooms};

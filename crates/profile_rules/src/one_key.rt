@@ -5,9 +5,8 @@ use crate::attribute::{Attribute, Origin, ValueForm};
 use crate::condition::Condition;
 use crate::parts::{Form, LayerInfo, Parts, Rule};
 use crate::profile::Profile;
-use crate::words::owned;
 use std::alloc::Global;
-use tb_types::{Memory, Seq};
+use tb_types::{Memory, Seq, Text};
 
 /// The profile of a key, which isn't empty: points of all nodes with that key, in the one layer `nodes` at zoom 0, with
 /// the key as their attribute.
@@ -23,7 +22,7 @@ pub fn one_rule(alloc: Global, key: &str) -> Result<Profile, Memory>
 fn one_rule_parts(alloc: Global, key: &str) -> Result<Parts, Memory>
     ensures { IfOk result (λ p. p ≡ one_rule_of key.now) }
 {
-    let name = owned(alloc, "map")?;
+    let name = Text::copy_of(alloc, "map")?;
     let mut layers = Seq::new(alloc);
     layers.push(nodes_layer(alloc)?)?;
     let mut rules = Seq::new(alloc);
@@ -42,7 +41,7 @@ fn nodes_layer(alloc: Global) -> Result<LayerInfo, Memory>
     ensures { IfOk result (λ l. l ≡ nodes_layer) }
 {
     Ok(LayerInfo {
-        id: owned(alloc, "nodes")?,
+        id: Text::copy_of(alloc, "nodes")?,
         buffer: 0,
         tolerance: 0,
     })
@@ -52,11 +51,11 @@ fn key_rule(alloc: Global, key: &str) -> Result<Rule, Memory>
     ensures { IfOk result (λ r. r ≡ key_rule key.now) }
 {
     let mut conditions = Seq::new(alloc);
-    conditions.push(Condition::Stands(owned(alloc, key)?))?;
+    conditions.push(Condition::Stands(Text::copy_of(alloc, key)?))?;
     let mut attributes = Seq::new(alloc);
     attributes.push(Attribute {
-        name: owned(alloc, key)?,
-        origin: Origin::Tag(owned(alloc, key)?, ValueForm::Text),
+        name: Text::copy_of(alloc, key)?,
+        origin: Origin::Tag(Text::copy_of(alloc, key)?, ValueForm::Text),
     })?;
     Ok(Rule {
         layer: 0,

@@ -14,10 +14,9 @@ use crate::parts::Parts;
 use crate::profile::Profile;
 use crate::rule::rules_of;
 use crate::top::{Top, top_of};
-use crate::words::owned;
 use std::alloc::Global;
 use std::str;
-use tb_types::Seq;
+use tb_types::{Seq, Text};
 use toml::Table;
 
 /// The spot of the text as a whole and of its top table.
@@ -99,7 +98,7 @@ fn parts_under(alloc: Global, top: Top<'_>) -> Result<Parts, ProfileErr>
 {
     let layers = layers_of(alloc, &top.layers)?;
     let rules = rules_of(alloc, top.zooms, &layers, &top.rules)?;
-    let name = match owned(alloc, top.name) {
+    let name = match Text::copy_of(alloc, top.name) {
         Ok(name) => name,
         Err(_) => return Err(ProfileErr::Memory),
     };

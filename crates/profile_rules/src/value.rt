@@ -4,7 +4,6 @@ ghost use Rattle.profile_rules.specs.Features.{attr_of, origin_value, value_in, 
 use crate::attribute::{Attribute, Constant, Origin, ValueForm};
 use crate::element::tag_value;
 use crate::limits::MOST_DIGITS;
-use crate::words::owned;
 use std::alloc::Global;
 use tb_types::{Attr, AttrValue, Memory, Text};
 
@@ -18,7 +17,7 @@ pub fn attr_of(
 {
     match origin_value(alloc, tags, &attribute.origin)? {
         Some(value) => {
-            let name = owned(alloc, attribute.name.as_str())?;
+            let name = Text::copy_of(alloc, attribute.name.as_str())?;
             Ok(Some(Attr { name, value }))
         }
         None => Ok(None),
@@ -46,7 +45,7 @@ fn value_in(alloc: Global, form: ValueForm, text: &str) -> Result<Option<AttrVal
     ensures { IfOk result (λ value. value ≡ value_in form text.now) }
 {
     match form {
-        ValueForm::Text => Ok(Some(AttrValue::Text(owned(alloc, text)?))),
+        ValueForm::Text => Ok(Some(AttrValue::Text(Text::copy_of(alloc, text)?))),
         ValueForm::Whole => match whole_value(text.as_bytes()) {
             Some(n) => Ok(Some(AttrValue::Whole(n))),
             None => Ok(None),
@@ -62,7 +61,7 @@ fn constant_value(alloc: Global, constant: &Constant) -> Result<AttrValue, Memor
     ensures { IfOk result (λ value. value ≡ constant_value constant.now) }
 {
     match constant {
-        Constant::Text(text) => Ok(AttrValue::Text(owned(alloc, text.as_str())?)),
+        Constant::Text(text) => Ok(AttrValue::Text(Text::copy_of(alloc, text.as_str())?)),
         Constant::Whole(n) => Ok(AttrValue::Whole(i128::from(*n))),
         Constant::Truth(b) => Ok(AttrValue::Truth(*b)),
     }
