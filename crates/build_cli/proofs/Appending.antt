@@ -1,12 +1,12 @@
 -- Pieces that are appended one behind another.
-use Rattle.std.proofs.Common.{◌≡◌, ℕ, ◌+◌, ◌<◌, ◌≤◌, Option, None, Some, Result, Ok, Err, OnOk, OnErr, List, [], ◌∷◌, ◌++◌, length, take, drop, get_or, map, refl, sym, ap, subst, ◌∙◌, arith, append_assoc}
+use Rattle.std.proofs.Common.{◌≡◌, ℕ, ◌+◌, ◌<◌, ◌≤◌, Option, None, Some, Ok, Err, List, [], ◌∷◌, ◌++◌, length, take, drop, get_or, map, refl, sym, ap, subst, ◌∙◌, arith, append_assoc}
 use Rattle.std.specs.List.{concat}
 use Rattle.std.specs.Borrow.{Bor}
 use Rattle.std.proofs.lemmas.List.{append-nil, take_more, drop_more, take_all, map-append, take-append-drop}
 use Rattle.std.proofs.lemmas.List.Folds.{concat-append}
 use Rattle.tb_types.specs.Counts.{Rose}
 use Rattle.tb_outside.specs.declared.failed.Failed.{Failed}
-use Rattle.tb_outside.specs.Sink.{SinkSeen, SinkAnswers, with_more, GrowsByFront}
+use Rattle.tb_outside.specs.Sink.{SinkSeen, SinkAnswers, with_more, GrowsByPrefix}
 
 -- the bytes of all pieces
 abbrev text_of : List (Bor (List ℕ)) → List ℕ
@@ -44,7 +44,7 @@ appended-next pieces old mid new i d h s more same = record {
 pub appended-end : (pieces : List (Bor (List ℕ))) (old now : SinkSeen) (i : ℕ) → length pieces ≤ i → Appended pieces old now i → SinkAnswers old now (text_of pieces) (Ok tt)
 appended-end pieces old now i h s = record {
   appended = s.bytes ∙ ap (λ ps. with_more old.bytes (text_of ps)) (take_all i pieces h);
-  front = tt;
+  prefix = tt;
   ok = s.faults;
   err = tt;
   never_falls = omega (arith, s.faults);
@@ -56,8 +56,8 @@ text-parts : (pieces : List (Bor (List ℕ))) (i : ℕ) (d : Bor (List ℕ)) →
 text-parts pieces i d h =
     ap text_of (sym (take-append-drop i pieces)) ∙ (text-append (take i pieces) (drop i pieces) ∙ ap (λ later. text_of (take i pieces) ++ text_of later) (drop_more pieces i d h))
 
-front-of : (o mid new : Option (List ℕ)) (a piece later whole : List ℕ) → mid ≡ with_more o a → whole ≡ a ++ (piece ++ later) → GrowsByFront mid new piece → GrowsByFront o new whole
-front-of o mid new a piece later whole is parts g = (
+prefix-of : (o mid new : Option (List ℕ)) (a piece later whole : List ℕ) → mid ≡ with_more o a → whole ≡ a ++ (piece ++ later) → GrowsByPrefix mid new piece → GrowsByPrefix o new whole
+prefix-of o mid new a piece later whole is parts g = (
   a ++ g.0,
   g.1 ++ later,
   parts ∙ (ap (λ p. a ++ (p ++ later)) g.2 ∙ (ap (λ xs. a ++ xs) (append_assoc g.0 g.1 later) ∙ sym (append_assoc a g.0 (g.1 ++ later)))),
@@ -65,10 +65,10 @@ front-of o mid new a piece later whole is parts g = (
 )
 
 pub appended-fails : (pieces : List (Bor (List ℕ))) (old mid new : SinkSeen) (i : ℕ) (d : Bor (List ℕ)) (e : Failed) → i < length pieces → Appended pieces old mid i
-    → GrowsByFront mid.bytes new.bytes (get_or pieces i d).now → Rose mid.faults new.faults → mid.faults ≤ new.faults → SinkAnswers old new (text_of pieces) (Err e)
-appended-fails pieces old mid new i d e h s front rose rising = record {
+    → GrowsByPrefix mid.bytes new.bytes (get_or pieces i d).now → Rose mid.faults new.faults → mid.faults ≤ new.faults → SinkAnswers old new (text_of pieces) (Err e)
+appended-fails pieces old mid new i d e h s prefix rose rising = record {
   appended = tt;
-  front = front-of old.bytes mid.bytes new.bytes (text_of (take i pieces)) (get_or pieces i d).now (text_of (drop (i + 1) pieces)) (text_of pieces) s.bytes (text-parts pieces i d h) front;
+  prefix = prefix-of old.bytes mid.bytes new.bytes (text_of (take i pieces)) (get_or pieces i d).now (text_of (drop (i + 1) pieces)) (text_of pieces) s.bytes (text-parts pieces i d h) prefix;
   ok = tt;
   err = subst (λ n. Rose n new.faults) s.faults rose;
   never_falls = omega (arith, s.faults, rising);
@@ -76,4 +76,4 @@ appended-fails pieces old mid new i d e h s front rose rising = record {
 
 -- two pieces are as they should be
 pub also : (a b x y : List ℕ) → a ≡ b → x ≡ y → a ++ x ≡ b ++ y
-also a b x y h k = ap (λ front. front ++ x) h ∙ ap (λ later. b ++ later) k
+also a b x y h k = ap (λ prefix. prefix ++ x) h ∙ ap (λ later. b ++ later) k

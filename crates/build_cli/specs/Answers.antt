@@ -1,131 +1,73 @@
 -- What a command's answer says, whatever number of lanes works on it.
-use Rattle.std.specs.Prelude.{◌≡◌, ◌≢◌, ℕ, true, ◌⊎◌, Option, None, Some, IfSome, List, [], ◌∷◌, map}
+use Rattle.std.specs.Prelude.{◌≡◌, ◌⊎◌, ◌↔◌, ℕ, ◌≤◌, Option, None, Some, IfSome, Result, Ok, Err, List}
 use Rattle.tb_types.specs.Counts.{Rose}
-use Rattle.tb_types.specs.declared.damage.Damage.{Damage}
-use Rattle.tb_outside.specs.Source.{SourceSeen}
-use Rattle.tb_outside.specs.Sink.{SinkSeen, with_more, GrowsByFront}
+use Rattle.tb_outside.specs.Sink.{SinkSeen, with_more, GrowsByPrefix}
+use Rattle.build_one.specs.declared.from.ProfileFrom.{ProfileFrom}
+use Rattle.build_one.specs.declared.stop.Stop.{Stop}
 use Rattle.build_one.specs.declared.totals.Totals.{Totals}
-use Rattle.build_one.specs.Due as builds
-use Rattle.profile_rules.specs.declared.fault.Spot.{Spot}
-use Rattle.profile_rules.specs.declared.fault.ProfileWhy.{ProfileWhy}
-use Rattle.build_cli.specs.Command.{Command, nodes, build, command_of}
-use Rattle.build_cli.specs.Due.{Due, not_understood, of_build, due_of, status_of}
-use Rattle.build_cli.specs.Line.{success_line, refusal_line, damage_line, profile_line, profile_source_line, lane_source_line, is_status}
-use Rattle.build_cli.specs.Objects.{Objects, extract_in}
+use Rattle.build_one.specs.Objects.{Objects}
+use Rattle.build_one.specs.Due.{Due, due_in}
+use Rattle.build_one.specs.Answers.{BuildAnswers, OnBuilt}
+use Rattle.build_cli.specs.Command.{Command, build, command_of, source_of}
+use Rattle.build_cli.specs.Line.{success_line, line_of}
+use Rattle.build_cli.specs.Status.{done, sink_failed, status_of}
+use Rattle.build_cli.specs.declared.status.Refusal.TheVariants.{Words, Stopped}
 
--- the count of some reader rose
-abbrev pub SomeReaderRose : List SourceSeen → List SourceSeen → Type 0
-SomeReaderRose [] new = ⊥
-SomeReaderRose (r ∷ old) [] = ⊥
-SomeReaderRose (r ∷ old) (s ∷ new) = Rose r.faults s.faults ⊎ SomeReaderRose old new
+-- the console has a line more, or a prefix of it where its count rose; its count never falls
+pub record HasLine (old new : SinkSeen) (line : List ℕ) : Type 0 where
+  pub told : (new.bytes ≡ with_more old.bytes line) ⊎ (Rose old.faults new.faults × GrowsByPrefix old.bytes new.bytes line)
+  pub never_falls : old.faults ≤ new.faults
 
--- no count of an object that a build uses can have risen
-pub record NoneRose (before after : Objects) : Type 0 where
-  pub profile : Rose before.profile.faults after.profile.faults → ⊥
-  pub readers : SomeReaderRose before.readers after.readers → ⊥
-  pub archive : Rose before.archive.faults after.archive.faults → ⊥
-  pub console : Rose before.console.faults after.console.faults → ⊥
+-- the console has a line more
+pub record HasWholeLine (old new : SinkSeen) (line : List ℕ) : Type 0 where
+  pub told : new.bytes ≡ with_more old.bytes line
+  pub faults : new.faults ≡ old.faults
 
--- the counts of the objects that a build uses are as they were
-pub record CountsStay (before after : Objects) : Type 0 where
-  pub profile : after.profile.faults ≡ before.profile.faults
-  pub readers : map (λ r. r.faults) after.readers ≡ map (λ r. r.faults) before.readers
-  pub archive : after.archive.faults ≡ before.archive.faults
-  pub console : after.console.faults ≡ before.console.faults
+-- the console failed with a prefix of the line
+pub record LacksLine (old new : SinkSeen) (line : List ℕ) : Type 0 where
+  pub told : GrowsByPrefix old.bytes new.bytes line
+  pub rose : Rose old.faults new.faults
+  pub never_falls : old.faults ≤ new.faults
 
--- an archive is due, and P holds of its totals and its bytes
-abbrev pub IsArchive : Due → (Totals → List ℕ → Type 0) → Type 0
-IsArchive not_understood P = ⊥
-IsArchive (of_build (builds.faulty spot why)) P = ⊥
-IsArchive (of_build (builds.damaged damage)) P = ⊥
-IsArchive (of_build builds.not_yet) P = ⊥
-IsArchive (of_build (builds.builds totals archive)) P = P totals archive
+-- The status and the console after a build. The line of success is whole, or else the status is that of a sink; a refusal keeps its
+-- status, whatever becomes of its line.
+abbrev pub Tells : Result Totals Stop → SinkSeen → SinkSeen → ℕ → Type 0
+Tells (Ok totals) old new answer = ((answer ≡ done) × HasWholeLine old new (success_line totals)) ⊎ ((answer ≡ sink_failed) × LacksLine old new (success_line totals))
+Tells (Err stop) old new answer = (answer ≡ status_of (Stopped stop)) × HasLine old new (line_of (Stopped stop))
 
--- the archive is written whole, and its line is on the console
-abbrev pub IsBuilt : Due → Objects → Objects → Type 0
-IsBuilt not_understood before after = ⊥
-IsBuilt (of_build (builds.faulty spot why)) before after = ⊥
-IsBuilt (of_build (builds.damaged damage)) before after = ⊥
-IsBuilt (of_build builds.not_yet) before after = ⊥
-IsBuilt (of_build (builds.builds totals archive)) before after =
-    (after.archive.bytes ≡ with_more before.archive.bytes archive) × (after.console.bytes ≡ with_more before.console.bytes (success_line totals))
+-- a build by these rules answered, and the status and the console tell of its answer
+pub record AnswersBuild (from : ProfileFrom) (before after : Objects) (console new_console : SinkSeen) (answer : ℕ) : Type 0 where
+  pub result : Result Totals Stop
+  pub built : BuildAnswers from before after result
+  pub told : Tells result console new_console answer
 
--- the console has a line more, or a front of it where its count rose
-abbrev pub HasLine : SinkSeen → SinkSeen → List ℕ → Type 0
-HasLine old new line = (new.bytes ≡ with_more old.bytes line) ⊎ (Rose old.faults new.faults × GrowsByFront old.bytes new.bytes line)
+-- the words are no command: nothing but the console is touched
+pub record AnswersWords (before after : Objects) (console new_console : SinkSeen) (answer : ℕ) : Type 0 where
+  pub status : answer ≡ status_of Words
+  pub untouched : after ≡ before
+  pub told : HasLine console new_console (line_of Words)
 
--- the archive's sink has a front of the archive more
-abbrev pub HasFront : Due → Objects → Objects → Type 0
-HasFront due before after = IsArchive due (λ totals archive. GrowsByFront before.archive.bytes after.archive.bytes archive)
+abbrev pub AnswersCommand : Option Command → Objects → Objects → SinkSeen → SinkSeen → ℕ → Type 0
+AnswersCommand None before after console new_console answer = AnswersWords before after console new_console answer
+AnswersCommand (Some (build rules extract archive)) before after console new_console answer = AnswersBuild (source_of rules) before after console new_console answer
 
--- the archive is whole, and the console has a front of the line of success more
-abbrev pub LacksLine : Due → Objects → Objects → Type 0
-LacksLine due before after =
-    IsArchive due (λ totals archive. (after.archive.bytes ≡ with_more before.archive.bytes archive) × GrowsByFront before.console.bytes after.console.bytes (success_line totals))
+-- The promise of a top call.
+abbrev pub Answers : List (List ℕ) → Objects → Objects → SinkSeen → SinkSeen → ℕ → Type 0
+Answers words before after console new_console answer = AnswersCommand (command_of words) before after console new_console answer
 
--- Why a sink's fault was answered, and what the sinks hold then. What is due is told by the reader, or isn't known.
-abbrev pub SinkFailed : Option Due → Objects → Objects → Type 0
-SinkFailed due before after =
-    (Rose before.archive.faults after.archive.faults × IfSome due (λ d. HasFront d before after) × HasLine before.console after.console (refusal_line 9))
-    ⊎ ((after.archive.faults ≡ before.archive.faults) × Rose before.console.faults after.console.faults × IfSome due (λ d. LacksLine d before after))
+-- what is due for a command, as far as the objects tell
+abbrev pub due_of_command : Option Command → Objects → Option Due
+due_of_command None before = None
+due_of_command (Some (build rules extract archive)) before = due_in (source_of rules) before
 
--- this damage is due, and its line is on the console
-abbrev pub IsDamaged : Option Due → Objects → Objects → Type 0
-IsDamaged due before after = (damage : Damage) × IfSome due (λ d. d ≡ of_build (builds.damaged damage)) × HasLine before.console after.console (damage_line damage)
+-- an archive is due, and stands behind what the archive's sink had
+abbrev pub IsWritten : Option Due → Objects → Objects → Type 0
+IsWritten due before after = IfSome due (λ d. OnBuilt d (λ built. after.archive.bytes ≡ with_more before.archive.bytes built.bytes))
 
--- this fault of the profile is due, and its line is on the console
-abbrev pub IsFaulty : Option Due → Objects → Objects → Type 0
-IsFaulty due before after = (spot : Spot) × (why : ProfileWhy) × IfSome due (λ d. d ≡ of_build (builds.faulty spot why)) × HasLine before.console after.console (profile_line spot why)
+-- status 0 means that the archive that is due was written
+abbrev pub DoneMeansWritten : Type 0
+DoneMeansWritten = (words : List (List ℕ)) (before after : Objects) (console new_console : SinkSeen) (answer : ℕ) → Answers words before after console new_console answer → answer ≡ done → IsWritten (due_of_command (command_of words) before) before after
 
--- the count of the profile's source rose, or else that of a reader did; the console has the line of the one
-abbrev pub SourceFailed : Objects → Objects → Type 0
-SourceFailed before after =
-    (Rose before.profile.faults after.profile.faults × HasLine before.console after.console profile_source_line)
-    ⊎ ((after.profile.faults ≡ before.profile.faults) × SomeReaderRose before.readers after.readers × HasLine before.console after.console lane_source_line)
-
--- what is due, as far as the objects tell
-abbrev pub told_due : List (List ℕ) → Objects → Option Due
-told_due words objects = due_of words objects.profile.bytes (extract_in objects)
-
--- a command that doesn't read the profile's source
-abbrev pub IsAlone : Option Command → Type 0
-IsAlone None = Unit {0}
-IsAlone (Some (nodes key extract archive)) = Unit {0}
-IsAlone (Some (build profile extract archive)) = ⊥
-
--- The promise of a top call, by its answer.
-pub record Answers (words : List (List ℕ)) (before after : Objects) (answer : ℕ) : Type 0 where
-  -- the answer is one of the stated ones
-  pub stated : is_status answer ≡ true
-  -- 0: the archive of the extract is written, its line is on the console, and no count rose
-  pub built : answer ≡ 0 → IfSome (told_due words before) (λ d. IsBuilt d before after)
-  pub quiet : answer ≡ 0 → CountsStay before after
-  -- 2: exactly where the words are no command; nothing but the console is touched
-  pub not_understood : answer ≡ 2 → command_of words ≡ None
-  pub only_two : command_of words ≡ None → answer ≡ 2
-  pub untouched : answer ≡ 2 → after.readers ≡ before.readers
-  -- 3: this fault of the profile is what is due, and no reader was touched
-  pub faulty : answer ≡ 3 → IsFaulty (told_due words before) before after
-  pub judged : answer ≡ 3 → after.readers ≡ before.readers
-  -- 4: this damage of the extract is what is due
-  pub damaged : answer ≡ 4 → IsDamaged (told_due words before) before after
-  -- 7: the count of the profile's source or of a reader rose
-  pub source : answer ≡ 7 → SourceFailed before after
-  -- 9: a sink's count rose
-  pub sink : answer ≡ 9 → SinkFailed (told_due words before) before after
-  -- 13: what is due isn't built yet
-  pub not_built_yet : answer ≡ 13 → IfSome (told_due words before) (λ d. d ≡ of_build builds.not_yet)
-  -- on another answer than 7 no source's count rose
-  pub quiet_profile : answer ≢ 7 → after.profile.faults ≡ before.profile.faults
-  pub quiet_readers : answer ≢ 7 → map (λ r. r.faults) after.readers ≡ map (λ r. r.faults) before.readers
-  -- another answer than 0 and 9 leaves the archive's sink as it was, and the console has its line
-  pub unwritten : answer ≢ 0 → answer ≢ 9 → after.archive ≡ before.archive
-  pub line : answer ≢ 0 → answer ≢ 3 → answer ≢ 4 → answer ≢ 7 → answer ≢ 9 → HasLine before.console after.console (refusal_line answer)
-  -- where no count rose, the answer is what is due, or want of memory
-  pub complete : NoneRose before after → IfSome (told_due words before) (λ d. (answer ≡ 10) ⊎ (answer ≡ status_of d))
-  -- what the command doesn't use is as it was, and what sources tell of their bytes stays
-  pub alone : IsAlone (command_of words) → after.profile ≡ before.profile
-  pub spills : after.spills ≡ before.spills
-  pub spool : after.spool ≡ before.spool
-  pub profile_bytes : after.profile.bytes ≡ before.profile.bytes
-  pub bytes : map (λ r. r.bytes) after.readers ≡ map (λ r. r.bytes) before.readers
+-- status 2 comes exactly where the words are no command
+abbrev pub OnlyWordsAreNotUnderstood : Type 0
+OnlyWordsAreNotUnderstood = (words : List (List ℕ)) (before after : Objects) (console new_console : SinkSeen) (answer : ℕ) → Answers words before after console new_console answer → (answer ≡ status_of Words) ↔ (command_of words ≡ None)

@@ -1,6 +1,6 @@
 pub mod Answers
 pub mod Command
-pub mod Due
 pub mod Line
 pub mod Names
-pub mod Objects
+pub mod Status
+pub mod Told

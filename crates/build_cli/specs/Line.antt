@@ -1,30 +1,26 @@
 -- The lines on the console.
-use Rattle.std.specs.Prelude.{ℕ, Bool, ◌==◌, ◌||◌, if◌then◌else◌, List, [], ◌∷◌, codes, decimal}
+use Rattle.std.specs.Prelude.{ℕ, List, [], ◌∷◌, codes, decimal}
 use Rattle.std.specs.List.{concat}
 use Rattle.tb_types.specs.declared.damage.Why.{Why}
 use Rattle.tb_types.specs.declared.damage.Why.TheVariants as reasons
 use Rattle.tb_types.specs.declared.damage.Damage.{Damage}
+use Rattle.tb_types.specs.declared.trouble.Whom.{Whom}
+use Rattle.tb_types.specs.declared.trouble.Whom.TheVariants as whom
 use Rattle.profile_rules.specs.declared.fault.Part.{Part}
 use Rattle.profile_rules.specs.declared.fault.Part.TheVariants as parts
 use Rattle.profile_rules.specs.declared.fault.Spot.{Spot}
 use Rattle.profile_rules.specs.declared.fault.ProfileWhy.{ProfileWhy}
 use Rattle.profile_rules.specs.declared.fault.ProfileWhy.TheVariants as faults
+use Rattle.build_one.specs.declared.stop.Stop.TheVariants as stops
 use Rattle.build_one.specs.declared.totals.Totals.{Totals}
+use Rattle.build_cli.specs.declared.status.Refusal.{Refusal}
+use Rattle.build_cli.specs.declared.status.Refusal.TheVariants.{Words, Stopped}
 
 -- the line of success
 unfoldable pub success_line : Totals → List ℕ
 success_line totals =
     concat
     (codes "built: tiles " ∷ decimal totals.tiles ∷ codes ", entries " ∷ decimal totals.entries ∷ codes ", contents " ∷ decimal totals.contents ∷ codes ", bytes " ∷ decimal totals.bytes ∷ codes "\n" ∷ [])
-
--- the statuses that a command may answer
-abbrev pub is_status : ℕ → Bool
-is_status status = (status == 0) || (status == 2) || (status == 3) || (status == 4) || (status == 7) || (status == 9) || (status == 10) || (status == 13)
-
--- the line of a refusal that is the same for all its causes
-unfoldable pub refusal_line : ℕ → List ℕ
-refusal_line status =
-    if status == 2 then codes "words not understood\n" else if status == 9 then codes "sink: archive\n" else if status == 10 then codes "want of memory\n" else codes "not built yet\n"
 
 -- why an extract is damaged
 unfoldable pub why_text : Why → List ℕ
@@ -47,12 +43,24 @@ why_text reasons.Range = codes "range"
 unfoldable pub damage_line : Damage → List ℕ
 damage_line damage = concat (codes "damage: block " ∷ decimal damage.block ∷ codes ": " ∷ why_text damage.why ∷ codes "\n" ∷ [])
 
--- a source that failed: the profile's, or that of lane 0
-abbrev pub profile_source_line : List ℕ
-profile_source_line = codes "source: profile\n"
+-- the name of an object outside, and the number of a lane
+unfoldable pub whom_text : Whom → List ℕ
+whom_text whom.Profile = codes "profile"
+whom_text (whom.Lane k) = codes "lane "
+whom_text whom.Spool = codes "spool"
+whom_text whom.Archive = codes "archive"
+whom_text whom.Console = codes "console"
 
-abbrev pub lane_source_line : List ℕ
-lane_source_line = codes "source: lane 0\n"
+abbrev pub lane_text : Whom → List ℕ
+lane_text (whom.Lane k) = decimal k
+lane_text whom.Profile = []
+lane_text whom.Spool = []
+lane_text whom.Archive = []
+lane_text whom.Console = []
+
+-- the line of a source that failed
+unfoldable pub source_line : Whom → List ℕ
+source_line w = concat (codes "source: " ∷ whom_text w ∷ lane_text w ∷ codes "\n" ∷ [])
 
 -- the part of a profile: its kind, and its number where there are several
 unfoldable pub part_text : Part → List ℕ
@@ -83,3 +91,26 @@ fault_text faults.Attribute = codes "attribute"
 -- the line of a refused profile
 unfoldable pub profile_line : Spot → ProfileWhy → List ℕ
 profile_line spot why = concat (codes "profile: " ∷ part_text spot.part ∷ number_text spot ∷ codes ": " ∷ fault_text why ∷ codes "\n" ∷ [])
+
+-- the lines that are the same for all their causes
+unfoldable pub words_line : List ℕ
+words_line = codes "words not understood\n"
+
+unfoldable pub sink_line : List ℕ
+sink_line = codes "sink: archive\n"
+
+unfoldable pub memory_line : List ℕ
+memory_line = codes "want of memory\n"
+
+unfoldable pub not_yet_line : List ℕ
+not_yet_line = codes "not built yet\n"
+
+-- the line of a refusal
+abbrev pub line_of : Refusal → List ℕ
+line_of Words = words_line
+line_of (Stopped (stops.Profile spot why)) = profile_line spot why
+line_of (Stopped (stops.Damage damage)) = damage_line damage
+line_of (Stopped (stops.Source w)) = source_line w
+line_of (Stopped stops.Sink) = sink_line
+line_of (Stopped stops.NotYet) = not_yet_line
+line_of (Stopped stops.Memory) = memory_line

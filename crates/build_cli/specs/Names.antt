@@ -1,9 +1,13 @@
 -- The names of a command's files.
-use Rattle.std.specs.Prelude.{[], ◌∷◌}
-use Rattle.build_cli.specs.Command.{Command, nodes, build}
+use Rattle.std.specs.Prelude.{ℕ, List, [], ◌∷◌}
+use Rattle.build_cli.specs.Command.{Command, Rules, build, by_key, by_profile}
 use Rattle.build_cli.specs.declared.names.Names.{Names}
+
+-- the name of the file of the rules, if they are in one
+abbrev pub profile_name : Rules → List ℕ
+profile_name (by_key key) = []
+profile_name (by_profile name) = name
 
 -- the names of a command's files: one reader
 abbrev pub names_of : Command → Names
-names_of (nodes key extract archive) = record { profile = []; readers = extract ∷ []; output = archive }
-names_of (build profile extract archive) = record { profile = profile; readers = extract ∷ []; output = archive }
+names_of (build rules extract archive) = record { profile = profile_name rules; readers = extract ∷ []; output = archive }

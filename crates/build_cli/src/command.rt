@@ -1,23 +1,26 @@
 ghost use Rattle.std.specs.Prelude.{◌≡◌, map, string_bytes, length, not, ◌&&◌, ◌==◌, codes, nat_eq, IfSome, IfOk, true};
 ghost use Rattle.std.specs.Option.{option_map};
-ghost use Rattle.build_cli.specs.Command.{IsKeyed, is_argument, named, command_of, seen_command, profile_of};
+ghost use Rattle.build_cli.specs.Command.{IsKeyedCommand, is_argument, named, command_of, seen_command, seen_rules, source_of};
 
 use build_one::ProfileFrom;
 use std::alloc::Global;
 use tb_types::{Memory, Text};
 
+/// Where the rules of a build come from.
+#[derive(Clone, Copy, Debug, PartialEq, Eq)]
+pub enum Rules<'a> {
+    /// One rule: the nodes that have this key.
+    Key(&'a str),
+    /// The profile in a file of this name.
+    Profile(&'a str),
+}
+
 /// A command with its values.
 #[derive(Clone, Copy, Debug, PartialEq, Eq)]
 pub enum Command<'a> {
-    /// Build a map of the nodes that have this key.
-    Nodes {
-        key: &'a str,
-        extract: &'a str,
-        archive: &'a str,
-    },
-    /// Build a map by a profile.
+    /// Build a map by these rules, from an extract to an archive.
     Build {
-        profile: &'a str,
+        rules: Rules<'a>,
         extract: &'a str,
         archive: &'a str,
     },
@@ -26,7 +29,7 @@ pub enum Command<'a> {
 /// The command of these words, or `None` where they are none. A key isn't empty.
 pub fn command_of(words: &[String]) -> Option<Command<'_>>
     ensures command { option_map seen_command result ≡ command_of (map (λ word. string_bytes word) words.now) }
-    ensures keyed { IfSome result (λ c. IsKeyed (seen_command c)) }
+    ensures keyed { IfSome result (λ c. IsKeyedCommand (seen_command c)) }
 {
     match words {
         [name, first, extract, archive] => {
@@ -56,23 +59,20 @@ pub fn command_of(words: &[String]) -> Option<Command<'_>>
 fn named<'a>(name: &str, first: &'a str, extract: &'a str, archive: &'a str) -> Option<Command<'a>>
     requires { is_argument first.now ≡ true }
     ensures command { option_map seen_command result ≡ named name.now first.now extract.now archive.now }
-    ensures keyed { IfSome result (λ c. IsKeyed (seen_command c)) }
+    ensures keyed { IfSome result (λ c. IsKeyedCommand (seen_command c)) }
 {
-    if name == "nodes" {
-        return Some(Command::Nodes {
-            key: first,
-            extract,
-            archive,
-        });
-    }
-    if name == "build" {
-        return Some(Command::Build {
-            profile: first,
-            extract,
-            archive,
-        });
-    }
-    None
+    let rules = if name == "nodes" {
+        Rules::Key(first)
+    } else if name == "build" {
+        Rules::Profile(first)
+    } else {
+        return None;
+    };
+    Some(Command::Build {
+        rules,
+        extract,
+        archive,
+    })
 }
 
 // A word that is no option and isn't empty.
@@ -82,15 +82,12 @@ fn is_argument(word: &str) -> bool
     !word.is_empty() && !word.as_bytes().starts_with(b"--")
 }
 
-/// Where the profile of a command comes from.
-pub fn profile_of(alloc: Global, command: Command<'_>) -> Result<ProfileFrom, Memory>
-    ensures { IfOk result (λ from. from ≡ profile_of (seen_command command.entry)) }
+/// Where the profile of a build comes from.
+pub fn source_of(alloc: Global, rules: Rules<'_>) -> Result<ProfileFrom, Memory>
+    ensures { IfOk result (λ from. from ≡ source_of (seen_rules rules.entry)) }
 {
-    match command {
-        Command::Nodes { key, .. } => {
-            let key = Text::from_string(String::from_str(alloc, key)?);
-            Ok(ProfileFrom::OneRule(key))
-        }
-        Command::Build { .. } => Ok(ProfileFrom::Read),
+    match rules {
+        Rules::Key(key) => Ok(ProfileFrom::OneRule(Text::copy_of(alloc, key)?)),
+        Rules::Profile(_) => Ok(ProfileFrom::Read),
     }
 }

@@ -1,19 +1,20 @@
-ghost use Rattle.std.specs.Prelude.{◌≡◌, ◌≢◌};
-ghost use Rattle.tb_types.specs.declared.trouble.Whom.TheVariants as sources;
+ghost use Rattle.std.specs.Prelude.{◌≡◌};
 ghost use Rattle.tb_outside.specs.Sink.{SinkAnswers};
-ghost use Rattle.build_cli.specs.Line.{success_line, refusal_line, damage_line, why_text, profile_line, part_text, number_text, fault_text, profile_source_line, lane_source_line};
-ghost use Rattle.build_cli.specs.Answers.{HasLine};
+ghost use Rattle.build_cli.specs.Line.{success_line, line_of, source_line, whom_text, lane_text, damage_line, why_text, profile_line, part_text, number_text, fault_text};
+ghost use Rattle.build_cli.specs.Answers.{HasLine, Tells};
+ghost use Rattle.build_cli.specs.Status.{status_of};
 
 use crate::pieces::append_all;
-use build_one::Totals;
+use crate::status::{DONE, Refusal, SINK_FAILED, status_of};
+use build_one::{Stop, Totals};
 use itoa::Buffer;
 use profile_rules::{Part, ProfileWhy, Spot};
 use tb_outside::{Failed, Sink};
 use tb_types::{Damage, Whom, Why};
 
-/// Tells the console of an archive that is written. It takes no memory.
+// Tells the console of an archive that is written. It takes no memory.
 #[tactic(auto, unfolding(crate::specs::Line::success_line))]
-pub fn tell_success<K: Sink>(console: &mut K, totals: Totals) -> Result<(), Failed>
+fn tell_success<K: Sink>(console: &mut K, totals: Totals) -> Result<(), Failed>
     ensures { SinkAnswers (K.seen console.old) (K.seen console.new) (success_line totals) result }
 {
     let mut tiles = Buffer::new();
@@ -36,59 +37,89 @@ pub fn tell_success<K: Sink>(console: &mut K, totals: Totals) -> Result<(), Fail
     )
 }
 
-/// Tells the console of an answer other than 0, 3, 4 and 7, and gives it back. A console that fails changes nothing of the answer.
-pub fn refuse<K: Sink>(console: &mut K, status: u8) -> u8
-    ensures status { result ≡ status }
-    ensures line { HasLine (K.seen console.old) (K.seen console.new) (refusal_line status) }
+/// Tells the console how a build ended, and gives the status. A console that fails changes nothing of a refusal; behind a whole
+/// archive it is the status of a sink that failed.
+pub fn tell<K: Sink>(console: &mut K, ended: Result<Totals, Stop>) -> u8
+    ensures { Tells ended (K.seen console.old) (K.seen console.new) result }
 {
-    match console.append(refusal_line(status)) {
-        Ok(()) => {}
-        Err(_) => {}
-    }
-    status
-}
-
-#[tactic(auto, unfolding(crate::specs::Line::refusal_line))]
-fn refusal_line(status: u8) -> &'static [u8]
-    ensures { result.now ≡ refusal_line status }
-{
-    match status {
-        2 => b"words not understood\n",
-        9 => b"sink: archive\n",
-        10 => b"want of memory\n",
-        _ => b"not built yet\n",
+    match ended {
+        Ok(totals) => match tell_success(console, totals) {
+            Ok(()) => DONE,
+            Err(_) => SINK_FAILED,
+        },
+        Err(stop) => refuse(console, Refusal::Stopped(stop)),
     }
 }
 
-/// Tells the console of a source that failed, the profile's or that of lane 0, and gives its status, 7. A console that fails
-/// changes nothing of the answer.
-pub fn refuse_source<K: Sink>(console: &mut K, whom: Whom) -> u8
-    ensures status { result ≡ 7 }
-    ensures profile { whom ≡ sources.Profile → HasLine (K.seen console.old) (K.seen console.new) profile_source_line }
-    ensures lane { whom ≢ sources.Profile → HasLine (K.seen console.old) (K.seen console.new) lane_source_line }
+/// Tells the console of a refusal, and gives its status, which stands whatever becomes of the line.
+pub fn refuse<K: Sink>(console: &mut K, refusal: Refusal) -> u8
+    ensures status { result ≡ status_of refusal }
+    ensures line { HasLine (K.seen console.old) (K.seen console.new) (line_of refusal) }
 {
-    let line = if whom == Whom::Profile {
-        b"source: profile\n".as_slice()
-    } else {
-        b"source: lane 0\n".as_slice()
-    };
-    match console.append(line) {
+    match tell_refusal(console, refusal) {
         Ok(()) => {}
         Err(_) => {}
     }
-    7
+    status_of(refusal)
 }
 
-/// Tells the console of a refused profile, and gives its status, 3. A console that fails changes nothing of the answer.
-pub fn refuse_profile<K: Sink>(console: &mut K, spot: Spot, why: ProfileWhy) -> u8
-    ensures status { result ≡ 3 }
-    ensures line { HasLine (K.seen console.old) (K.seen console.new) (profile_line spot why) }
+// Appends the line of a refusal.
+#[tactic(auto, unfolding(crate::specs::Line::words_line, crate::specs::Line::sink_line, crate::specs::Line::not_yet_line, crate::specs::Line::memory_line))]
+fn tell_refusal<K: Sink>(console: &mut K, refusal: Refusal) -> Result<(), Failed>
+    ensures { SinkAnswers (K.seen console.old) (K.seen console.new) (line_of refusal) result }
 {
-    match tell_profile(console, spot, why) {
-        Ok(()) => {}
-        Err(_) => {}
+    match refusal {
+        Refusal::Words => console.append(b"words not understood\n"),
+        Refusal::Stopped(Stop::Profile { spot, why }) => tell_profile(console, spot, why),
+        Refusal::Stopped(Stop::Damage(damage)) => tell_damage(console, damage),
+        Refusal::Stopped(Stop::Source(whom)) => tell_source(console, whom),
+        Refusal::Stopped(Stop::Sink) => console.append(b"sink: archive\n"),
+        Refusal::Stopped(Stop::NotYet) => console.append(b"not built yet\n"),
+        Refusal::Stopped(Stop::Memory) => console.append(b"want of memory\n"),
     }
-    3
+}
+
+#[tactic(auto, unfolding(crate::specs::Line::source_line))]
+fn tell_source<K: Sink>(console: &mut K, whom: Whom) -> Result<(), Failed>
+    ensures { SinkAnswers (K.seen console.old) (K.seen console.new) (source_line whom) result }
+{
+    let mut digits = Buffer::new();
+    append_all(
+        console,
+        &[
+            b"source: ".as_slice(),
+            whom_text(whom),
+            lane_text(&mut digits, whom),
+            b"\n".as_slice(),
+        ],
+    )
+}
+
+// The name of an object outside.
+#[tactic(auto, unfolding(crate::specs::Line::whom_text))]
+fn whom_text(whom: Whom) -> &'static [u8]
+    ensures { result.now ≡ whom_text whom }
+{
+    match whom {
+        Whom::Profile => b"profile",
+        Whom::Lane(_) => b"lane ",
+        Whom::Spool => b"spool",
+        Whom::Archive => b"archive",
+        Whom::Console => b"console",
+    }
+}
+
+// The number of a lane.
+fn lane_text(digits: &mut Buffer, whom: Whom) -> &[u8]
+    ensures { result.now ≡ lane_text whom }
+{
+    match whom {
+        Whom::Lane(number) => digits.format(number).as_bytes(),
+        Whom::Profile => b"",
+        Whom::Spool => b"",
+        Whom::Archive => b"",
+        Whom::Console => b"",
+    }
 }
 
 #[tactic(auto, unfolding(crate::specs::Line::profile_line))]
@@ -149,18 +180,6 @@ fn fault_text(why: ProfileWhy) -> &'static [u8]
         ProfileWhy::Condition => b"condition",
         ProfileWhy::Attribute => b"attribute",
     }
-}
-
-/// Tells the console of damage, and gives its status, 4. A console that fails changes nothing of the answer.
-pub fn refuse_damage<K: Sink>(console: &mut K, damage: Damage) -> u8
-    ensures status { result ≡ 4 }
-    ensures line { HasLine (K.seen console.old) (K.seen console.new) (damage_line damage) }
-{
-    match tell_damage(console, damage) {
-        Ok(()) => {}
-        Err(_) => {}
-    }
-    4
 }
 
 #[tactic(auto, unfolding(crate::specs::Line::damage_line))]

@@ -1,9 +1,9 @@
 ghost use Rattle.std.specs.Prelude.{◌≡◌, [], ◌∷◌, map, string_bytes, IfOk};
 ghost use Rattle.std.specs.Option.{option_map};
-ghost use Rattle.build_cli.specs.Command.{command_of};
-ghost use Rattle.build_cli.specs.Names.{names_of};
+ghost use Rattle.build_cli.specs.Command.{command_of, seen_rules};
+ghost use Rattle.build_cli.specs.Names.{names_of, profile_name};
 
-use crate::command::{Command, command_of};
+use crate::command::{Command, Rules, command_of};
 use std::alloc::Global;
 use tb_types::{Memory, Seq, Text};
 
@@ -25,19 +25,22 @@ pub fn names_of(alloc: Global, words: &[String]) -> Result<Option<Names>, Memory
     match command_of(words) {
         None => Ok(None),
         Some(
-            Command::Nodes {
-                extract,
-                archive,
-                ..
-            },
-        ) => Ok(Some(named(alloc, "", extract, archive)?)),
-        Some(
             Command::Build {
-                profile,
+                rules,
                 extract,
                 archive,
             },
-        ) => Ok(Some(named(alloc, profile, extract, archive)?)),
+        ) => Ok(Some(named(alloc, profile_name(rules), extract, archive)?)),
+    }
+}
+
+// The name of the file of the rules, if they are in one.
+fn profile_name(rules: Rules<'_>) -> &str
+    ensures { result.now ≡ profile_name (seen_rules rules.entry) }
+{
+    match rules {
+        Rules::Key(_) => "",
+        Rules::Profile(name) => name,
     }
 }
 
@@ -46,18 +49,10 @@ fn named(alloc: Global, profile: &str, extract: &str, archive: &str) -> Result<N
     ensures { IfOk result (λ names. names ≡ record { profile = profile.now; readers = extract.now ∷ []; output = archive.now }) }
 {
     let mut readers = Seq::new(alloc);
-    readers.push(text(alloc, extract)?)?;
+    readers.push(Text::copy_of(alloc, extract)?)?;
     Ok(Names {
-        profile: text(alloc, profile)?,
+        profile: Text::copy_of(alloc, profile)?,
         readers,
-        output: text(alloc, archive)?,
+        output: Text::copy_of(alloc, archive)?,
     })
-}
-
-fn text(alloc: Global, word: &str) -> Result<Text, Memory>
-    ensures { IfOk result (λ t. t ≡ word.now) }
-{
-    let mut text = Text::new(alloc);
-    text.push_str(word)?;
-    Ok(text)
 }

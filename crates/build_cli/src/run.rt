@@ -1,10 +1,17 @@
 ghost use Rattle.std.specs.Prelude.{◌≡◌, map, string_bytes};
-ghost use Rattle.build_cli.specs.Objects.{one_lane};
-ghost use Rattle.build_cli.specs.Answers.{Answers};
+ghost use Rattle.build_one.specs.Answers.{BuildAnswers};
+ghost use Rattle.build_one.specs.Objects.{one_lane};
+ghost use Rattle.build_cli.specs.Answers.{Answers, HasLine};
+ghost use Rattle.build_cli.specs.Command.{IsKeyed, seen_rules, source_of};
+ghost use Rattle.build_cli.specs.Line.{line_of};
+ghost use Rattle.build_cli.specs.Status.{status_of};
+ghost use Rattle.build_cli.specs.declared.status.Refusal.TheVariants.{Stopped};
+ghost use Rattle.build_one.specs.declared.stop.Stop.TheVariants as stops;
 
-use crate::command::{command_of, profile_of};
-use crate::line::{refuse, refuse_damage, refuse_profile, refuse_source, tell_success};
-use build_one::{Stop, build};
+use crate::command::{Command, Rules, command_of, source_of};
+use crate::line::{refuse, tell};
+use crate::status::Refusal;
+use build_one::{Stop, Totals, build};
 use std::alloc::Global;
 use tb_outside::{Lane, Sink, Source, Spill};
 
@@ -12,7 +19,7 @@ use tb_outside::{Lane, Sink, Source, Spill};
 /// damaged, 7 a source failed, 9 a sink failed, 10 want of memory, 13 not built yet.
 ///
 /// The console gets one line. The archive's sink gets nothing before all of it is made, so it holds the whole archive
-/// (status 0, and 9 where only the console failed), a front of it (9), or nothing new.
+/// (status 0, and 9 where only the console failed), a prefix of it (9), or nothing new.
 pub fn run_one<R: Source, S: Spill, K: Sink>(
     alloc: Global,
     words: &[String],
@@ -23,29 +30,45 @@ pub fn run_one<R: Source, S: Spill, K: Sink>(
     console: &mut K,
 ) -> u8
     ensures answers { Answers (map (λ word. string_bytes word) words.now)
-        (one_lane R.seen S.seen K.seen profile.old lane.old spool.old archive.old console.old)
-        (one_lane R.seen S.seen K.seen profile.new lane.new spool.new archive.new console.new) result }
+        (one_lane R.seen R.seen S.seen K.seen profile.old lane.old spool.old archive.old)
+        (one_lane R.seen R.seen S.seen K.seen profile.new lane.new spool.new archive.new) (K.seen console.old) (K.seen console.new) result }
     ensures spill { lane.new.spill ≡ lane.old.spill }
     ensures spool { spool.new ≡ spool.old }
 {
-    let command = match command_of(words) {
-        None => return refuse(console, 2),
-        Some(command) => command,
-    };
-    let from = match profile_of(alloc, command) {
-        Err(_) => return refuse(console, 10),
-        Ok(from) => from,
-    };
-    match build(alloc, from, profile, lane, spool, archive) {
-        Ok(totals) => match tell_success(console, totals) {
-            Ok(()) => 0,
-            Err(_) => 9,
-        },
-        Err(Stop::Profile { spot, why }) => refuse_profile(console, spot, why),
-        Err(Stop::Damage(damage)) => refuse_damage(console, damage),
-        Err(Stop::Source(whom)) => refuse_source(console, whom),
-        Err(Stop::Sink) => refuse(console, 9),
-        Err(Stop::NotYet) => refuse(console, 13),
-        Err(Stop::Memory) => refuse(console, 10),
+    match command_of(words) {
+        None => refuse(console, Refusal::Words),
+        Some(Command::Build { rules, .. }) => {
+            let ended = build_by(alloc, rules, profile, lane, spool, archive);
+            tell(console, ended)
+        }
     }
+}
+
+// Builds by the rules of a command.
+fn build_by<R: Source, S: Spill, K: Sink>(
+    alloc: Global,
+    rules: Rules<'_>,
+    profile: &mut R,
+    lane: &mut Lane<R, S>,
+    spool: &mut S,
+    archive: &mut K,
+) -> Result<Totals, Stop>
+    requires keyed { IsKeyed (seen_rules rules) }
+    ensures answers { BuildAnswers (source_of (seen_rules rules.entry)) (one_lane R.seen R.seen S.seen K.seen profile.old lane.old spool.old archive.old)
+        (one_lane R.seen R.seen S.seen K.seen profile.new lane.new spool.new archive.new) result }
+    ensures spill { lane.new.spill ≡ lane.old.spill }
+    ensures spool { spool.new ≡ spool.old }
+{
+    match source_of(alloc, rules) {
+        Ok(from) => build(alloc, from, profile, lane, spool, archive),
+        Err(_) => Err(Stop::Memory),
+    }
+}
+
+/// Tells the console that memory was refused before a command could begin, and gives the status of that.
+pub fn refuse_memory<K: Sink>(console: &mut K) -> u8
+    ensures status { result ≡ status_of (Stopped stops.Memory) }
+    ensures line { HasLine (K.seen console.old) (K.seen console.new) (line_of (Stopped stops.Memory)) }
+{
+    refuse(console, Refusal::Stopped(Stop::Memory))
 }

@@ -1,7 +1,9 @@
 //! Whole commands over objects in memory, as tables.
 
-ghost use Rattle.std.specs.Prelude.{◌≡◌, map, string_bytes, Some, IfOk, IfSome};
-ghost use Rattle.build_cli.specs.Due.{due_of, HasWritten};
+ghost use Rattle.std.specs.Prelude.{◌≡◌, ◌++◌, map, string_bytes, Some, IfOk, IfSome};
+ghost use Rattle.build_one.specs.Answers.{OnBuilt};
+ghost use Rattle.build_cli.specs.Command.{command_of};
+ghost use Rattle.build_cli.specs.Told.{due_of};
 
 mod damage;
 mod failing;
@@ -33,7 +35,7 @@ fn run(
     archive: &mut MemSink,
     console: &mut MemSink,
 ) -> Result<u8, Memory>
-    ensures { IfOk result (λ status. status ≡ 0 → IfSome (due_of (map (λ word. string_bytes word) words.now) (Some profile.bytes) (Some reader.bytes)) (λ d. HasWritten d archive.old.bytes archive.new.bytes)) }
+    ensures { IfOk result (λ status. status ≡ 0 → IfSome (due_of (command_of (map (λ word. string_bytes word) words.now)) profile.bytes reader.bytes) (λ d. OnBuilt d (λ built. archive.new.bytes ≡ archive.old.bytes ++ built.bytes))) }
 {
     let mut profile = profile;
     let mut spool = MemSpill::new(alloc, Vec::new(alloc))?;

@@ -1,3 +1,5 @@
+pub mod Boxes
+pub mod Completeness
 pub mod Filled
 pub mod InOrder
 pub mod Metas

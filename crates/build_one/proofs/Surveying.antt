@@ -9,10 +9,11 @@ use Rattle.profile_rules.specs.declared.parts.Parts.{Parts}
 use Rattle.build_one.specs.declared.found.Found.{Found}
 use Rattle.build_one.specs.Contents.{Content, content_at, with_later, contents_at}
 use Rattle.build_one.specs.Found.{Holds, HasFound, Takes, joined, AreSound}
-use Rattle.build_one.specs.declared.stop.Stop.{Stop}
-use Rattle.build_one.specs.declared.stop.Stop.TheVariants as stops
-use Rattle.build_one.specs.Survey.{Surveys, SurveyCounts, LoadCounts}
+use Rattle.pbf_blobs.specs.declared.stop.ScanStop.{ScanStop}
+use Rattle.pbf_blobs.specs.declared.stop.ScanStop.TheVariants as stops
+use Rattle.build_one.specs.Survey.{Surveys}
 use Rattle.pbf_blobs.specs.Answers.{IsShort}
+use Rattle.build_one.specs.declared.stop.LoadStop.{LoadStop}
 use Rattle.std.proofs.lemmas.List.{take_all}
 use Rattle.std.proofs.lemmas.List.Elements.{All-get_or}
 
@@ -44,7 +45,7 @@ both_told None P Q R f h k = tt
 both_told (Some bytes) P Q R f h k = f bytes h k
 
 -- a call that answered
-abbrev done : Result (Unit {0}) Stop
+abbrev done : Result (Unit {0}) LoadStop
 done = Ok tt
 
 -- What is held after the first blocks of an extract, if it is told.
@@ -82,29 +83,6 @@ pub within-block : (before now : Option (List ℕ)) (blocks : List BlockAt) (i :
 within-block before now blocks i d more is h =
     let each : (extract : List ℕ) → All (IsShort (length extract)) blocks → (get_or blocks i d).at + (get_or blocks i d).len ≤ length extract = λ extract all. (All-get_or (IsShort (length extract)) blocks i d more all).1 in
     subst (λ (o : Option (List ℕ)). IfSome o (λ extract. (get_or blocks i d).at + (get_or blocks i d).len ≤ length extract)) (sym is) (map_told before (λ extract. All (IsShort (length extract)) blocks) (λ extract. (get_or blocks i d).at + (get_or blocks i d).len ≤ length extract) each h)
-
--- a load that failed
-load-surveys : (parts : Parts) (stop : Stop) (old new : ℕ) (contents : Result (List Content) Damage) → LoadCounts {A = Unit {0}} (Err stop) old new → Surveys parts (Err stop) contents
-load-surveys parts (stops.Source w) old new contents h = tt
-load-surveys parts stops.Memory old new contents h = tt
-load-surveys parts (stops.Damage damage) old new contents h = absurd h
-load-surveys parts stops.Sink old new contents h = h
-load-surveys parts (stops.Profile spot why) old new contents h = h
-load-surveys parts stops.NotYet old new contents h = h
-
-pub failed-told : (o : Option (List ℕ)) (parts : Parts) (blocks : List BlockAt) (stop : Stop) (old new : ℕ) → LoadCounts {A = Unit {0}} (Err stop) old new → IfSome o (λ extract. Surveys parts (Err stop) (contents_at extract blocks))
-failed-told o parts blocks stop old new h = any_told o (λ extract. Surveys parts (Err stop) (contents_at extract blocks)) (λ extract. load-surveys parts stop old new (contents_at extract blocks) h)
-
-failed-counts-here : (stop : Stop) (old new : ℕ) → LoadCounts {A = Unit {0}} (Err stop) old new → SurveyCounts {A = Found} (Err stop) old new
-failed-counts-here (stops.Source w) old new h = h
-failed-counts-here stops.Memory old new h = h
-failed-counts-here (stops.Damage damage) old new h = absurd h
-failed-counts-here stops.Sink old new h = h
-failed-counts-here (stops.Profile spot why) old new h = h
-failed-counts-here stops.NotYet old new h = h
-
-pub failed-counts : (stop : Stop) (old mid new : ℕ) → mid ≡ old → LoadCounts {A = Unit {0}} (Err stop) mid new → SurveyCounts {A = Found} (Err stop) old new
-failed-counts stop old mid new is h = failed-counts-here stop old new (subst (λ n. LoadCounts {A = Unit {0}} (Err stop) n new) is h)
 
 held-damage : (parts : Parts) (f : Found) (damage : Damage) (contents : Result (List Content) Damage) → f.damage ≡ Some damage → Holds parts f contents → contents ≡ Err damage
 held-damage parts f damage (Ok contents) is h = let no : None ≡ Some damage = sym h.0 ∙ is in absurd cc

@@ -11,10 +11,11 @@ use Rattle.mvt_codec.specs.declared.row.TileRow.{TileRow}
 use Rattle.mvt_codec.specs.Value.{IsWithin, IsWritable}
 use Rattle.osm_elements.specs.declared.element.Block.{Block}
 use Rattle.osm_elements.specs.declared.element.NodeEl.{NodeEl}
-use Rattle.build_one.specs.declared.bounds.MapBounds.{MapBounds}
+use Rattle.pmtiles_dirs.specs.declared.bounds.MapBounds.{MapBounds}
 use Rattle.build_one.specs.declared.found.Found.{Found}
 use Rattle.build_one.specs.Contents.{Content, header, elements, unread}
-use Rattle.build_one.specs.Bounds.{bounds_of, boxes_in}
+use Rattle.pmtiles_dirs.specs.Bounds.{bounds_of}
+use Rattle.build_one.specs.Bounds.{boxes_in}
 use Rattle.tb_types.specs.declared.location.World.{World}
 use Rattle.tb_types.specs.declared.element.Kind.TheVariants as kinds
 use Rattle.profile_rules.specs.declared.parts.Parts.{Parts}
@@ -60,7 +61,7 @@ boxes-next contents c = flat_map-append boxes_in contents (c ∷ []) ∙ ap (λ 
 has-next : (parts : Parts) (old new : Found) (contents : List Content) (c : Content) → HasContents parts old contents → new.items.items ≡ old.items.items ++ items_in parts c
     → new.bounds ≡ option_map bounds_of (slice_get (flat_map boxes_in contents ++ boxes_in c) 0) → HasContents parts new (contents ++ c ∷ [])
 has-next parts old new contents c h rows bounds = (
-  rows ∙ (ap (λ front. front ++ items_in parts c) h.0 ∙ sym (rows-next parts contents c)),
+  rows ∙ (ap (λ prefix. prefix ++ items_in parts c) h.0 ∙ sym (rows-next parts contents c)),
   bounds ∙ ap (λ boxes. option_map bounds_of (slice_get boxes 0)) (sym (boxes-next contents c)),
 )
 
@@ -93,12 +94,12 @@ takes-unread parts f none =
     takes-content parts f f unread none none (sym (append-nil f.items.items)) (λ contents h. bounds-same f f contents refl h.1)
 
 -- the next node of a block
-pub items-step : (parts : Parts) (nodes : List NodeEl) (i : ℕ) (d : NodeEl) (front now next : List Item) → i < length nodes → now ≡ front ++ flat_map (items_of parts) (take i nodes) → next ≡ now ++ items_of parts (get_or nodes i d)
-    → next ≡ front ++ flat_map (items_of parts) (take (i + 1) nodes)
-items-step parts nodes i d front now next h is more =
+pub items-step : (parts : Parts) (nodes : List NodeEl) (i : ℕ) (d : NodeEl) (prefix now next : List Item) → i < length nodes → now ≡ prefix ++ flat_map (items_of parts) (take i nodes) → next ≡ now ++ items_of parts (get_or nodes i d)
+    → next ≡ prefix ++ flat_map (items_of parts) (take (i + 1) nodes)
+items-step parts nodes i d prefix now next h is more =
     let last : flat_map (items_of parts) (take (i + 1) nodes) ≡ flat_map (items_of parts) (take i nodes) ++ items_of parts (get_or nodes i d) =
     ap (flat_map (items_of parts)) (take_more nodes i d h) ∙ (flat_map-append (items_of parts) (take i nodes) (get_or nodes i d ∷ []) ∙ ap (λ xs. flat_map (items_of parts) (take i nodes) ++ xs) (append-nil (items_of parts (get_or nodes i d)))) in
-    more ∙ (ap (λ xs. xs ++ items_of parts (get_or nodes i d)) is ∙ (append_assoc front (flat_map (items_of parts) (take i nodes)) (items_of parts (get_or nodes i d)) ∙ ap (λ xs. front ++ xs) (sym last)))
+    more ∙ (ap (λ xs. xs ++ items_of parts (get_or nodes i d)) is ∙ (append_assoc prefix (flat_map (items_of parts) (take i nodes)) (items_of parts (get_or nodes i d)) ∙ ap (λ xs. prefix ++ xs) (sym last)))
 
 whole-within : (z : ℤ) → fits_64 z ≡ true → IsWithin z
 whole-within (pos n) h = let small : n < 2 ^ 63 = ltb-true n (2 ^ 63) h in omega (arith, small)

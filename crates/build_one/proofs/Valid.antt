@@ -5,9 +5,10 @@ use Rattle.tb_types.specs.declared.damage.Why.TheVariants as reasons
 use Rattle.tb_types.specs.declared.location.Bounds.{Bounds}
 use Rattle.tb_wire.specs.Field.{Entry}
 use Rattle.osm_elements.specs.declared.fault.BlockErr.{BlockErr}
-use Rattle.osm_elements.specs.Reasons.{◌>>=◌, Gives}
-use Rattle.osm_elements.specs.Fields.{fields_of, bodies, merged}
-use Rattle.osm_elements.specs.Header.{is_valid, if_valid, box_in, box_if, all_accepted, header_of}
+use Rattle.tb_types.specs.Results.{◌>>=◌}
+use Rattle.osm_elements.specs.Reasons.{Gives}
+use Rattle.osm_elements.specs.Fields.{fields_of, bodies, merged_fields}
+use Rattle.osm_elements.specs.Header.{is_valid, if_valid, box_in, box_if, are_accepted, header_of}
 
 abbrev IsValidBox : Option Bounds → Type 0
 IsValidBox box = IfSome box (λ b. is_valid b ≡ true)
@@ -38,8 +39,8 @@ box-valid boxes fields =
 pub header-valid : (raw : List ℕ) → IfOk (header_of raw) IsValidBox
 unfolding header_of
 header-valid raw =
-    any-next IsValidBox (fields_of raw) _ (λ fields. any-next IsValidBox (bodies 1 fields) _ (λ boxes. any-next IsValidBox (merged 1 fields) _ (λ in_box. any-next IsValidBox (bodies 4 fields) _ (λ features.
-    next IsValidBox IsValidBox (box_if boxes in_box) _ (box-valid boxes in_box) (λ box valid. either IsValidBox (all_accepted features) (Ok box) (Err reasons.Feature) valid tt)))))
+    any-next IsValidBox (fields_of raw) _ (λ fields. any-next IsValidBox (bodies 1 fields) _ (λ boxes. any-next IsValidBox (merged_fields 1 fields) _ (λ in_box. any-next IsValidBox (bodies 4 fields) _ (λ features.
+    next IsValidBox IsValidBox (box_if boxes in_box) _ (box-valid boxes in_box) (λ box valid. either IsValidBox (are_accepted features) (Ok box) (Err reasons.Feature) valid tt)))))
 
 pub read-valid : (raw : List ℕ) (box : Option Bounds) → header_of raw ≡ Ok box → IsValidBox box
 read-valid raw box is = subst (λ (r : Result (Option Bounds) Why). IfOk r IsValidBox) is (header-valid raw)

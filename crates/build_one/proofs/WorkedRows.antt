@@ -3,7 +3,7 @@ use Rattle.std.proofs.Common.{◌≡◌, None, Some, Ok, [], ◌∷◌, ◌++◌
 use Rattle.serde_json.proofs.OnLiterals.{serde_json_on_literals}
 use Rattle.std.specs.Str.{is_utf8, chars}
 use lib.Utf8.{encode}
-use Rattle.tb_wire.specs.Varint.{varint, spelling}
+use Rattle.tb_wire.specs.Varint.{varint, encoding}
 use Rattle.tb_wire.specs.Field.{value_at, field_at}
 use Rattle.tb_wire.specs.Message.{message_at, number_at, packed_at, len_text}
 use Rattle.tb_types.specs.declared.damage.Why.TheVariants as reasons
@@ -18,9 +18,9 @@ use Rattle.int_mercator.specs.Cosine.{series, cosine_of}
 use Rattle.int_mercator.specs.Quarter.{secant_of, height_of, entry_of, quarter}
 use Rattle.int_mercator.specs.Places.{x_of, north_of, y_of, world_of, grid_of}
 use Rattle.build_one.specs.Contents.{header, contents_of}
-use Rattle.build_one.specs.Bounds.{world}
+use Rattle.pmtiles_dirs.specs.Bounds.{whole_world}
 use Rattle.build_one.specs.Archive.{root_text, longs_text, int_text, place_text, bounds_text, header_end, header_text, archive_text}
-use Rattle.build_one.specs.Meta.{kind_text, layer_data, metadata_of, metadata_text}
+use Rattle.pmtiles_dirs.specs.Meta.{kind_text, layer_data, metadata_of, metadata_text}
 use Rattle.build_one.specs.Worked.{WorkedRows, header_frame, cafe_frame, compressed_header, cafe, cafe_contents, ints_of, key_metadata, cafe_tile, no_tile, damage_in}
 
 header_alone : contents_of header_frame ≡ Ok (header None ∷ [])
@@ -52,27 +52,27 @@ unfolding world_of x_of y_of north_of quarter entry_of height_of secant_of cosin
 in_the_middle = refl
 
 root : root_text (Some cafe_tile) ≡ 1 ∷ 0 ∷ 1 ∷ 48 ∷ 1 ∷ []
-unfolding root_text spelling
+unfolding root_text encoding
 root = refl
 
 empty_root : root_text no_tile ≡ 0 ∷ []
-unfolding root_text spelling
+unfolding root_text encoding
 empty_root = refl
 
 metadata : key_metadata (codes "amenity") ≡ codes "{\"name\":\"map\",\"vector_layers\":[{\"fields\":{\"amenity\":\"String\"},\"id\":\"nodes\"}]}"
 unfolding metadata_text metadata_of layer_data kind_text serde_json_on_literals
 metadata = refl
 
-without_tile : length (archive_text (key_metadata (codes "amenity")) world no_tile) ≡ 205
-unfolding archive_text header_text header_end bounds_text place_text int_text longs_text root_text spelling metadata_text metadata_of layer_data kind_text serde_json_on_literals
+without_tile : length (archive_text (key_metadata (codes "amenity")) whole_world no_tile) ≡ 205
+unfolding archive_text header_text header_end bounds_text place_text int_text longs_text root_text encoding metadata_text metadata_of layer_data kind_text serde_json_on_literals
 without_tile = refl
 
-with_cafe : length (archive_text (key_metadata (codes "amenity")) world (Some cafe_tile)) ≡ 257
-unfolding archive_text header_text header_end bounds_text place_text int_text longs_text root_text spelling metadata_text metadata_of layer_data kind_text serde_json_on_literals
+with_cafe : length (archive_text (key_metadata (codes "amenity")) whole_world (Some cafe_tile)) ≡ 257
+unfolding archive_text header_text header_end bounds_text place_text int_text longs_text root_text encoding metadata_text metadata_of layer_data kind_text serde_json_on_literals
 with_cafe = refl
 
-of_shops : length (archive_text (key_metadata (codes "shop")) world no_tile) ≡ 202
-unfolding archive_text header_text header_end bounds_text place_text int_text longs_text root_text spelling metadata_text metadata_of layer_data kind_text serde_json_on_literals
+of_shops : length (archive_text (key_metadata (codes "shop")) whole_world no_tile) ≡ 202
+unfolding archive_text header_text header_end bounds_text place_text int_text longs_text root_text encoding metadata_text metadata_of layer_data kind_text serde_json_on_literals
 of_shops = refl
 
 pub worked_rows : WorkedRows

@@ -1,76 +1,88 @@
--- What a build's answer says, and what it leaves of the objects that it uses.
-use Rattle.std.specs.Prelude.{◌≡◌, ℕ, ◌≤◌, Option, None, Some, IfSome, Result, Ok, Err, List}
-use Rattle.tb_types.specs.Counts.{Rose}
-use Rattle.tb_types.specs.declared.trouble.Whom.TheVariants as whom
-use Rattle.tb_outside.specs.Source.{SourceSeen}
-use Rattle.tb_outside.specs.Sink.{SinkSeen, with_more, GrowsByFront}
+-- What a build's answer says, and what it leaves of the objects that it uses, on any number of lanes.
+use Rattle.std.specs.Prelude.{◌≡◌, ◌⊎◌, ℕ, Bool, true, false, Option, IfSome, Result, Ok, Err, List, map}
+use Rattle.tb_outside.specs.Sink.{SinkSeen, with_more, GrowsByPrefix}
+use Rattle.profile_rules.specs.declared.parts.Parts.{Parts}
+use Rattle.profile_rules.specs.Faults.{Fault}
+use Rattle.build_one.specs.declared.from.ProfileFrom.{ProfileFrom}
 use Rattle.build_one.specs.declared.stop.Stop.{Stop}
 use Rattle.build_one.specs.declared.stop.Stop.TheVariants as stops
 use Rattle.build_one.specs.declared.totals.Totals.{Totals}
-use Rattle.build_one.specs.Due.{Due, faulty, damaged, not_yet, builds}
+use Rattle.build_one.specs.Objects.{Objects, CountsStay, NoneRose, NoneFell, LeastRose}
+use Rattle.build_one.specs.Stops.{Cause, contents, count, memory, cause_of, IfContents, is_written, is_early}
+use Rattle.build_one.specs.Due.{Due, Built, due_in, parts_from}
+use Rattle.build_one.specs.Profiles.{IsAlone}
 
--- an archive with these totals is due
-abbrev pub HasTotals : Due → Totals → Type 0
-HasTotals (faulty spot why) totals = ⊥
-HasTotals (damaged damage) totals = ⊥
-HasTotals not_yet totals = ⊥
-HasTotals (builds of_due archive) totals = totals ≡ of_due
+-- an archive is due, and P holds of it
+abbrev pub OnBuilt : Due → (Built → Type 0) → Type 0
+OnBuilt (Ok built) P = P built
+OnBuilt (Err stop) P = ⊥
 
--- the archive that is due stands behind what stood there
-abbrev pub HasArchive : Due → SinkSeen → SinkSeen → Type 0
-HasArchive (faulty spot why) old new = ⊥
-HasArchive (damaged damage) old new = ⊥
-HasArchive not_yet old new = ⊥
-HasArchive (builds totals archive) old new = new.bytes ≡ with_more old.bytes archive
-
--- a front of the archive that is due stands behind what stood there
-abbrev pub HasFront : Due → SinkSeen → SinkSeen → Type 0
-HasFront (faulty spot why) old new = ⊥
-HasFront (damaged damage) old new = ⊥
-HasFront not_yet old new = ⊥
-HasFront (builds totals archive) old new = GrowsByFront old.bytes new.bytes archive
-
--- the answer is what is due
+-- an archive, or a stop that contents decide, is what is due
 abbrev pub IsDue : Result Totals Stop → Due → Type 0
-IsDue (Ok totals) due = HasTotals due totals
-IsDue (Err (stops.Profile spot why)) due = due ≡ faulty spot why
-IsDue (Err (stops.Damage damage)) due = due ≡ damaged damage
-IsDue (Err stops.NotYet) due = due ≡ not_yet
-IsDue (Err (stops.Source w)) due = Unit {0}
-IsDue (Err stops.Sink) due = Unit {0}
-IsDue (Err stops.Memory) due = Unit {0}
+IsDue (Ok totals) due = OnBuilt due (λ built. totals ≡ built.totals)
+IsDue (Err stop) due = IfContents (cause_of stop) (due ≡ Err stop)
 
--- the counts of the profile's source and of the reader: the one that is named rose, and another stays
-abbrev pub SourceCounts : Result Totals Stop → SourceSeen → SourceSeen → SourceSeen → SourceSeen → Type 0
-SourceCounts (Err (stops.Source whom.Profile)) profile new_profile reader new_reader = Rose profile.faults new_profile.faults × (new_reader ≡ reader)
-SourceCounts (Err (stops.Source (whom.Lane k))) profile new_profile reader new_reader = (k ≡ 0) × (new_profile.faults ≡ profile.faults) × Rose reader.faults new_reader.faults
-SourceCounts (Err (stops.Source whom.Spool)) profile new_profile reader new_reader = ⊥
-SourceCounts (Err (stops.Source whom.Archive)) profile new_profile reader new_reader = ⊥
-SourceCounts (Err (stops.Source whom.Console)) profile new_profile reader new_reader = ⊥
-SourceCounts (Err (stops.Profile spot why)) profile new_profile reader new_reader = (new_profile.faults ≡ profile.faults) × (new_reader ≡ reader)
-SourceCounts (Ok totals) profile new_profile reader new_reader = (new_profile.faults ≡ profile.faults) × (new_reader.faults ≡ reader.faults)
-SourceCounts (Err (stops.Damage damage)) profile new_profile reader new_reader = (new_profile.faults ≡ profile.faults) × (new_reader.faults ≡ reader.faults)
-SourceCounts (Err stops.NotYet) profile new_profile reader new_reader = (new_profile.faults ≡ profile.faults) × (new_reader.faults ≡ reader.faults)
-SourceCounts (Err stops.Sink) profile new_profile reader new_reader = (new_profile.faults ≡ profile.faults) × (new_reader.faults ≡ reader.faults)
-SourceCounts (Err stops.Memory) profile new_profile reader new_reader = (new_profile.faults ≡ profile.faults) × (new_reader.faults ≡ reader.faults)
+-- a refused profile has this as its first fault, and another stop of contents means that it has none, whatever the reader tells
+abbrev pub HasNoFault : Result Parts Fault → Type 0
+HasNoFault (Ok parts) = Unit {0}
+HasNoFault (Err fault) = ⊥
 
--- The archive's sink has the archive more, or a front of it where its count rose. On another answer it is as it was.
+abbrev pub IsJudged : Result Totals Stop → Result Parts Fault → Type 0
+IsJudged (Err (stops.Profile spot why)) found = found ≡ Err (spot, why)
+IsJudged (Ok totals) found = HasNoFault found
+IsJudged (Err (stops.Damage damage)) found = HasNoFault found
+IsJudged (Err stops.NotYet) found = HasNoFault found
+IsJudged (Err (stops.Source w)) found = Unit {0}
+IsJudged (Err stops.Sink) found = HasNoFault found
+IsJudged (Err stops.Memory) found = Unit {0}
+
+-- the count that a stop tells of rose, of all that did the least; on any other answer all counts stay
+abbrev pub IsCaused : Cause → Objects → Objects → Type 0
+IsCaused contents before after = CountsStay before after
+IsCaused (count role w) before after = LeastRose before after role w
+IsCaused memory before after = CountsStay before after
+
+abbrev pub HasCause : Result Totals Stop → Objects → Objects → Type 0
+HasCause (Ok totals) before after = CountsStay before after
+HasCause (Err stop) before after = IsCaused (cause_of stop) before after
+
+-- The archive's sink has the archive more, or a prefix of it where it failed. On another stop it is as it was.
+abbrev pub WritesPrefix : Bool → Option Due → SinkSeen → SinkSeen → Type 0
+WritesPrefix true due old new = IfSome due (λ d. OnBuilt d (λ built. GrowsByPrefix old.bytes new.bytes built.bytes))
+WritesPrefix false due old new = new ≡ old
+
 abbrev pub Writes : Result Totals Stop → Option Due → SinkSeen → SinkSeen → Type 0
-Writes (Ok totals) due old new = IfSome due (λ d. HasArchive d old new) × (new.faults ≡ old.faults)
-Writes (Err stops.Sink) due old new = IfSome due (λ d. HasFront d old new) × Rose old.faults new.faults
-Writes (Err (stops.Source w)) due old new = new ≡ old
-Writes (Err (stops.Profile spot why)) due old new = new ≡ old
-Writes (Err (stops.Damage damage)) due old new = new ≡ old
-Writes (Err stops.NotYet) due old new = new ≡ old
-Writes (Err stops.Memory) due old new = new ≡ old
+Writes (Ok totals) due old new = IfSome due (λ d. OnBuilt d (λ built. new.bytes ≡ with_more old.bytes built.bytes))
+Writes (Err stop) due old new = WritesPrefix (is_written (cause_of stop)) due old new
 
--- The promise of a build by its answer, where this is due as far as profile and extract are told.
-pub record BuildAnswers (due : Option Due) (profile new_profile reader new_reader : SourceSeen) (archive new_archive : SinkSeen) (result : Result Totals Stop) : Type 0 where
-  -- an archive, a fault of the profile, a damage, or that it isn't built yet is what is due
-  pub told : IfSome due (IsDue result)
-  -- a refused profile or its source's fault leaves the reader untouched
-  pub counts : SourceCounts result profile new_profile reader new_reader
-  pub written : Writes result due archive new_archive
-  -- what profile and reader tell of their bytes stays
-  pub profile_bytes : new_profile.bytes ≡ profile.bytes
-  pub bytes : new_reader.bytes ≡ reader.bytes
+abbrev pub ends_early : Result Totals Stop → Bool
+ends_early (Ok totals) = false
+ends_early (Err stop) = is_early stop
+
+-- The promise of a build by its answer. What is due is known as far as profile and extract are told.
+pub record BuildAnswers (from : ProfileFrom) (before after : Objects) (result : Result Totals Stop) : Type 0 where
+  -- what contents decide is what is due
+  pub told : IfSome (due_in from before) (IsDue result)
+  pub judged : IfSome (parts_from from before.profile.bytes) (IsJudged result)
+  -- another stop is caused by the least object whose count rose, or memory wants
+  pub cause : HasCause result before after
+  pub never_falls : NoneFell before after
+  pub written : Writes result (due_in from before) before.archive after.archive
+  -- a refused profile or its source's fault leaves the readers untouched
+  pub untouched : ends_early result ≡ true → after.readers ≡ before.readers
+  -- what sources tell of their bytes stays, and what isn't used is as it was
+  pub profile_bytes : after.profile.bytes ≡ before.profile.bytes
+  pub reader_bytes : map (λ r. r.bytes) after.readers ≡ map (λ r. r.bytes) before.readers
+  pub alone : IsAlone from → after.profile ≡ before.profile
+  pub spills : after.spills ≡ before.spills
+  pub spool : after.spool ≡ before.spool
+
+-- an answer is what is due
+abbrev pub Fits : Result Totals Stop → Due → Type 0
+Fits (Ok totals) due = OnBuilt due (λ built. totals ≡ built.totals)
+Fits (Err stop) due = due ≡ Err stop
+
+-- where no count rose, the answer is what is due, or memory wants
+abbrev pub BuildsAreComplete : Type 0
+BuildsAreComplete = (from : ProfileFrom) (before after : Objects) (result : Result Totals Stop) → BuildAnswers from before after result → NoneRose before after →
+    IfSome (due_in from before) (λ due. Fits result due ⊎ (result ≡ Err stops.Memory))

@@ -1,9 +1,9 @@
 -- The text of an archive with at most one tile, which is that of zoom 0 (PMTiles 3).
 use Rattle.std.specs.Prelude.{ℕ, ◌+◌, ◌-◌, ◌==◌, if◌then◌else◌, ℤ, Option, None, Some, List, [], ◌∷◌, ◌++◌, map, length, codes, flat_map, option_to_list, unwrap_or}
 use Rattle.std.specs.Int.{w32, w64, to_le_bytes, cast_unsigned}
-use Rattle.tb_wire.specs.Varint.{spelling}
-use Rattle.build_one.specs.declared.bounds.MapBounds.{MapBounds}
-use Rattle.build_one.specs.Bounds.{middle}
+use Rattle.tb_wire.specs.Varint.{encoding}
+use Rattle.pmtiles_dirs.specs.declared.bounds.MapBounds.{MapBounds}
+use Rattle.pmtiles_dirs.specs.Bounds.{middle}
 
 -- an entry of a directory: the first tile's id, how many tiles it is, and where their bytes lie
 pub record DirEntry : Type 0 where
@@ -30,7 +30,7 @@ dir_numbers entries =
 
 -- the root directory of an archive of at most one tile, which is that of zoom 0
 unfoldable pub root_text : Option (List ℕ) → List ℕ
-root_text tile = flat_map spelling (dir_numbers (map (λ bytes. record { id = 0; run = 1; len = length bytes; offset = 0 }) (option_to_list tile)))
+root_text tile = flat_map encoding (dir_numbers (map (λ bytes. record { id = 0; run = 1; len = length bytes; offset = 0 }) (option_to_list tile)))
 
 -- numbers of eight bytes, the least byte first
 unfoldable pub longs_text : List ℕ → List ℕ

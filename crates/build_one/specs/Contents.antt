@@ -8,7 +8,7 @@ use Rattle.pbf_blobs.specs.declared.block.BlockKind.{BlockKind}
 use Rattle.pbf_blobs.specs.declared.block.BlockKind.TheVariants as kinds
 use Rattle.pbf_blobs.specs.Blob.{raw_of}
 use Rattle.pbf_blobs.specs.Frames.{frames_of}
-use Rattle.osm_elements.specs.Reasons.{◌>>=◌}
+use Rattle.tb_types.specs.Results.{◌>>=◌}
 use Rattle.osm_elements.specs.Header.{header_of}
 use Rattle.osm_elements.specs.Block.{block_of}
 use Rattle.osm_elements.specs.declared.element.Block.{Block}

@@ -8,7 +8,8 @@ use Rattle.build_one.specs.declared.found.Found.{Found}
 use Rattle.build_one.specs.declared.stop.Stop.{Stop}
 use Rattle.build_one.specs.declared.stop.Stop.TheVariants as stops
 use Rattle.build_one.specs.Contents.{Content}
-use Rattle.build_one.specs.Bounds.{bounds_of, boxes_in}
+use Rattle.pmtiles_dirs.specs.Bounds.{bounds_of}
+use Rattle.build_one.specs.Bounds.{boxes_in}
 use Rattle.profile_rules.specs.declared.parts.Parts.{Parts}
 use Rattle.build_one.specs.declared.item.Item.{Item}
 use Rattle.build_one.specs.Items.{IsReadyItem}

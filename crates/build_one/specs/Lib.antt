@@ -6,10 +6,11 @@ pub mod Due
 pub mod Found
 pub mod Items
 pub mod Made
-pub mod Meta
 pub mod Metadata
+pub mod Objects
 pub mod Profiles
 pub mod Rows
+pub mod Stops
 pub mod Survey
 pub mod Tile
 pub mod Worked

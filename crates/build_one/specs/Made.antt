@@ -1,32 +1,27 @@
 -- What is made before anything is written.
-use Rattle.std.specs.Prelude.{◌≡◌, ℕ, Result, Ok, Err}
-use Rattle.tb_types.specs.Counts.{Rose}
-use Rattle.tb_types.specs.declared.trouble.Whom.TheVariants as whom
-use Rattle.build_one.specs.declared.engine.Made.{Made}
-use Rattle.build_one.specs.declared.stop.Stop.{Stop}
-use Rattle.build_one.specs.declared.stop.Stop.TheVariants as stops
-use Rattle.build_one.specs.Due.{Due, damaged, not_yet, builds}
+use Rattle.std.specs.Prelude.{◌≡◌, Bool, true, false, Result, Ok, Err}
+use Rattle.build_one.specs.declared.archive.Made.{Made}
+use Rattle.build_one.specs.declared.stop.Stop.TheVariants as whole
+use Rattle.build_one.specs.declared.stop.MakeStop.{MakeStop}
+use Rattle.build_one.specs.declared.stop.MakeStop.TheVariants as stops
+use Rattle.build_one.specs.Due.{Due, Built}
 
--- this archive is due
-abbrev pub IsMade : Made → Due → Type 0
-IsMade made due = due ≡ builds made.totals made.text.items
+-- the archive, as it is due
+abbrev pub built : Made → Built
+built made = record { totals = made.totals; bytes = made.text.items }
 
 -- the answer is what is due
-abbrev pub Makes : Result Made Stop → Due → Type 0
-Makes (Ok made) due = IsMade made due
-Makes (Err (stops.Damage damage)) due = due ≡ damaged damage
-Makes (Err stops.NotYet) due = due ≡ not_yet
-Makes (Err (stops.Source w)) due = Unit {0}
+abbrev pub Makes : Result Made MakeStop → Due → Type 0
+Makes (Ok made) due = due ≡ Ok (built made)
+Makes (Err (stops.Damage damage)) due = due ≡ Err (whole.Damage damage)
+Makes (Err stops.TooLarge) due = due ≡ Err whole.NotYet
+Makes (Err stops.Failed) due = Unit {0}
 Makes (Err stops.Memory) due = Unit {0}
-Makes (Err stops.Sink) due = ⊥
-Makes (Err (stops.Profile spot why)) due = ⊥
 
--- the reader's count rose where it failed, and else it stays
-abbrev pub MakeCounts : {A : Type 0} → Result A Stop → ℕ → ℕ → Type 0
-MakeCounts (Err (stops.Source w)) old new = (w ≡ whom.Lane 0) × Rose old new
-MakeCounts (Ok made) old new = new ≡ old
-MakeCounts (Err (stops.Damage damage)) old new = new ≡ old
-MakeCounts (Err stops.NotYet) old new = new ≡ old
-MakeCounts (Err stops.Memory) old new = new ≡ old
-MakeCounts (Err stops.Sink) old new = ⊥
-MakeCounts (Err (stops.Profile spot why)) old new = ⊥
+-- the reader failed
+abbrev pub make_failed : {A : Type 0} → Result A MakeStop → Bool
+make_failed (Ok made) = false
+make_failed (Err (stops.Damage damage)) = false
+make_failed (Err stops.TooLarge) = false
+make_failed (Err stops.Failed) = true
+make_failed (Err stops.Memory) = false

@@ -4,8 +4,8 @@ use Rattle.std.specs.List.{enumerate_from}
 use Rattle.profile_rules.specs.declared.parts.LayerInfo.{LayerInfo}
 use Rattle.profile_rules.specs.declared.parts.Parts.{Parts}
 use Rattle.profile_rules.specs.Fields.{name_of, layers_of, fields_of}
-use Rattle.build_one.specs.declared.meta.MetaLayer.{MetaLayer}
-use Rattle.build_one.specs.Meta.{metadata_text}
+use Rattle.pmtiles_dirs.specs.declared.meta.MetaLayer.{MetaLayer}
+use Rattle.pmtiles_dirs.specs.Meta.{metadata_text}
 
 abbrev pub meta_layer : Parts → ℕ × LayerInfo → MetaLayer
 meta_layer parts numbered = record { id = numbered.1.id; fields = fields_of parts numbered.0 }

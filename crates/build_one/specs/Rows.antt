@@ -4,7 +4,7 @@ use Rattle.tb_types.specs.declared.attribute.Attr.{Attr}
 use Rattle.tb_types.specs.declared.element.Kind.TheVariants as kinds
 use Rattle.tb_types.specs.declared.location.LatLon.{LatLon}
 use Rattle.tb_types.specs.declared.location.World.{World}
-use Rattle.tb_wire.specs.Zigzag.{zigzag_of}
+use Rattle.tb_types.specs.Zigzag.{zigzag_of}
 use Rattle.osm_elements.specs.declared.element.NodeEl.{NodeEl}
 use Rattle.int_mercator.specs.Places.{world_of, grid_of, lat_limit, lon_limit}
 use Rattle.profile_rules.specs.declared.parts.Parts.{Parts}

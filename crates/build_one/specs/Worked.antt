@@ -6,12 +6,12 @@ use Rattle.tb_types.specs.declared.damage.Damage.{Damage}
 use Rattle.tb_types.specs.declared.location.LatLon.{LatLon}
 use Rattle.tb_types.specs.declared.location.Bounds.{Bounds}
 use Rattle.osm_elements.specs.declared.element.NodeEl.{NodeEl}
-use Rattle.build_one.specs.declared.bounds.MapBounds.{MapBounds}
+use Rattle.pmtiles_dirs.specs.declared.bounds.MapBounds.{MapBounds}
 use Rattle.build_one.specs.Contents.{Content, header, elements, contents_of}
-use Rattle.build_one.specs.Bounds.{world, bounds_of}
+use Rattle.pmtiles_dirs.specs.Bounds.{whole_world, bounds_of}
 use Rattle.tb_types.specs.declared.attribute.FieldKind.TheVariants as field_kinds
-use Rattle.build_one.specs.declared.meta.MetaLayer.{MetaLayer}
-use Rattle.build_one.specs.Meta.{metadata_text}
+use Rattle.pmtiles_dirs.specs.declared.meta.MetaLayer.{MetaLayer}
+use Rattle.pmtiles_dirs.specs.Meta.{metadata_text}
 use Rattle.build_one.specs.Rows.{point_of, point_ints}
 use Rattle.build_one.specs.Archive.{root_text, archive_text}
 
@@ -74,8 +74,8 @@ pub record WorkedRows : Type 0 where
   pub root : root_text (Some cafe_tile) ≡ 1 ∷ 0 ∷ 1 ∷ 48 ∷ 1 ∷ []
   pub empty_root : root_text no_tile ≡ 0 ∷ []
   pub metadata : key_metadata (codes "amenity") ≡ codes "{\"name\":\"map\",\"vector_layers\":[{\"fields\":{\"amenity\":\"String\"},\"id\":\"nodes\"}]}"
-  pub without_tile : length (archive_text (key_metadata (codes "amenity")) world no_tile) ≡ 205
-  pub with_cafe : length (archive_text (key_metadata (codes "amenity")) world (Some cafe_tile)) ≡ 257
-  pub of_shops : length (archive_text (key_metadata (codes "shop")) world no_tile) ≡ 202
+  pub without_tile : length (archive_text (key_metadata (codes "amenity")) whole_world no_tile) ≡ 205
+  pub with_cafe : length (archive_text (key_metadata (codes "amenity")) whole_world (Some cafe_tile)) ≡ 257
+  pub of_shops : length (archive_text (key_metadata (codes "shop")) whole_world no_tile) ≡ 202
   -- 99 nanodegrees are 0 and -101 are -2, in 10^-7 degrees
   pub bounds : bounds_of (Some (record { left = neg_ℤ (pos 101); right = pos 99; top = pos 200; bottom = neg_ℤ (pos 1) })) ≡ record { west = neg_ℤ (pos 2); south = neg_ℤ (pos 1); east = pos 0; north = pos 2 }

@@ -1,14 +1,21 @@
 ghost use Rattle.std.specs.Prelude.{◌≡◌, ◌+◌, ◌<◌, ◌^◌, [], ◌∷◌, ◌++◌, length, flat_map, OnOk, IfOk, unwrap_or};
 ghost use Rattle.std.specs.Option.{option_map};
-ghost use Rattle.tb_wire.specs.Varint.{spelling};
+ghost use Rattle.tb_wire.specs.Varint.{encoding};
 ghost use Rattle.build_one.specs.Archive.{root_text, longs_text, int_text, place_text, bounds_text, header_end, header_text, archive_text, tile_count};
 
-use crate::bounds::MapBounds;
 use crate::numbers::HEADER_LEN;
 use crate::totals::Totals;
+use pmtiles_dirs::MapBounds;
 use std::alloc::Global;
 use tb_types::Memory;
 use tb_wire::put_varint;
+
+/// An archive that isn't written yet.
+#[derive(Drop)]
+pub struct Made {
+    pub text: Vec<u8>,
+    pub totals: Totals,
+}
 
 /// An archive of at most one tile, which is that of zoom 0: header, root directory, metadata and the tile.
 #[tactic(auto, using(std::proofs::Common::append_assoc), unfolding(crate::specs::Archive::archive_text))]
@@ -82,7 +89,7 @@ fn root_text(alloc: Global, tile: &Option<Vec<u8>>) -> Result<Vec<u8>, Memory>
 }
 
 fn varints(alloc: Global, numbers: &[u64]) -> Result<Vec<u8>, Memory>
-    ensures { IfOk result (λ v. v.items ≡ flat_map spelling numbers.now) }
+    ensures { IfOk result (λ v. v.items ≡ flat_map encoding numbers.now) }
 {
     let mut out = Vec::new(alloc);
     for n in numbers {

@@ -1,20 +1,23 @@
 ghost use Rattle.std.specs.Prelude.{◌≡◌, IfSome};
+ghost use Rattle.tb_types.specs.Counts.{Counted};
 ghost use Rattle.profile_rules.specs.Sound.{IsSound};
-ghost use Rattle.build_one.specs.Due.{due_of, due_of_extract};
+ghost use Rattle.build_one.specs.Answers.{BuildAnswers, BuildsAreComplete};
+ghost use Rattle.build_one.specs.Due.{due_of_extract};
+ghost use Rattle.build_one.specs.Made.{Makes, make_failed};
+ghost use Rattle.build_one.specs.Objects.{one_lane};
 ghost use Rattle.build_one.specs.Profiles.{IsKeyed, IsAlone};
-ghost use Rattle.build_one.specs.Answers.{BuildAnswers};
-ghost use Rattle.build_one.specs.Made.{Makes, MakeCounts};
 
-use crate::archive::{archive_text, totals_of};
-use crate::bounds::world;
+use crate::archive::{Made, archive_text, totals_of};
 use crate::from::ProfileFrom;
 use crate::metadata::metadata_in;
 use crate::profile::{is_built, profile_from};
-use crate::stop::Stop;
+use crate::stop::{MakeStop, Stop};
 use crate::survey::survey;
 use crate::tile::{is_too_large, tile_of};
 use crate::totals::Totals;
 use int_mercator::Table;
+use pbf_blobs::ScanStop;
+use pmtiles_dirs::whole_world;
 use profile_rules::Profile;
 use std::alloc::Global;
 use tb_outside::{Lane, Sink, Source, Spill};
@@ -34,22 +37,22 @@ pub fn build<P: Source, R: Source, S: Spill, K: Sink>(
     archive: &mut K,
 ) -> Result<Totals, Stop>
     requires keyed { IsKeyed from }
-    ensures answers { BuildAnswers (due_of from (P.seen profile.old).bytes (R.seen lane.old.reader).bytes) (P.seen profile.old) (P.seen profile.new)
-        (R.seen lane.old.reader) (R.seen lane.new.reader) (K.seen archive.old) (K.seen archive.new) result }
+    ensures answers { BuildAnswers from (one_lane P.seen R.seen S.seen K.seen profile.old lane.old spool.old archive.old)
+        (one_lane P.seen R.seen S.seen K.seen profile.new lane.new spool.new archive.new) result }
     ensures alone { IsAlone from → profile.new ≡ profile.old }
     ensures spill { lane.new.spill ≡ lane.old.spill }
     ensures spool { spool.new ≡ spool.old }
 {
     let profile = match profile_from(alloc, &from, profile) {
         Ok(profile) => profile,
-        Err(stop) => return Err(stop),
+        Err(e) => return Err(Stop::from(e)),
     };
     if !is_built(&profile) {
         return Err(Stop::NotYet);
     }
     let made = match make(alloc, &profile, &mut lane.reader) {
         Ok(made) => made,
-        Err(stop) => return Err(stop),
+        Err(e) => return Err(Stop::from(e)),
     };
     match archive.append(&made.text) {
         Ok(()) => Ok(made.totals),
@@ -57,32 +60,32 @@ pub fn build<P: Source, R: Source, S: Spill, K: Sink>(
     }
 }
 
-/// An archive that isn't written yet.
-#[derive(Drop)]
-pub struct Made {
-    pub text: Vec<u8>,
-    pub totals: Totals,
-}
-
 // Makes the archive: a survey of the extract, its tile, and the text around it.
-fn make<R: Source>(alloc: Global, profile: &Profile, reader: &mut R) -> Result<Made, Stop>
+fn make<R: Source>(alloc: Global, profile: &Profile, reader: &mut R) -> Result<Made, MakeStop>
     requires sound { IsSound profile.now }
     ensures told { IfSome (R.seen reader.old).bytes (λ extract. Makes result (due_of_extract profile.now extract)) }
-    ensures counts { MakeCounts result (R.seen reader.old).faults (R.seen reader.new).faults }
+    ensures counts { Counted (make_failed result) (R.seen reader.old).faults (R.seen reader.new).faults }
     ensures bytes { (R.seen reader.new).bytes ≡ (R.seen reader.old).bytes }
 {
     let table = Table::new(alloc)?;
     let found = match survey(alloc, profile, &table, reader) {
         Ok(found) => found,
-        Err(stop) => return Err(stop),
+        Err(ScanStop::Damage(damage)) => return Err(MakeStop::Damage(damage)),
+        Err(ScanStop::Failed) => return Err(MakeStop::Failed),
+        Err(ScanStop::Memory) => return Err(MakeStop::Memory),
     };
-    let bounds = found.bounds.unwrap_or(world());
+    let bounds = found.bounds.unwrap_or(whole_world());
     let tile = tile_of(alloc, profile, found.items)?;
     if is_too_large(&tile) {
-        return Err(Stop::NotYet);
+        return Err(MakeStop::TooLarge);
     }
     let metadata = metadata_in(alloc, profile)?;
     let text = archive_text(alloc, metadata.as_bytes(), bounds, &tile)?;
     let totals = totals_of(&tile, text.len());
     Ok(Made { text, totals })
 }
+
+/// Where no count of an object that a build uses rose, its answer is what is due, or memory wants.
+pub fn builds_are_complete()
+    ensures { BuildsAreComplete }
+{}

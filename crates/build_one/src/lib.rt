@@ -1,32 +1,29 @@
 //! A build on one lane: takes a profile and the extract that a lane's reader has, gives its archive to a sink.
 //!
 //! Read `engine` (the passes by their names), then along the way of the bytes: `profile`, `survey` and `found` (what the blocks
-//! of the extract hold), `body` (one block), `node` and `item` (its rows), `layers` and `tile`, `bounds`, `meta`, `metadata` and
-//! `archive`. What a build promises by its answer stands in `specs/Answers`, what is due in `specs/Due`, and what that rests on
+//! of the extract hold), `body` (one block), `node` and `item` (its rows), `layers` and `tile`, `metadata` and `archive`. What a build promises by its answer stands in `specs/Answers`, what is due in `specs/Due`, and what that rests on
 //! in the files that it names.
 #![tactic(auto)]
 
 mod archive;
 mod body;
-mod bounds;
 mod engine;
 mod found;
 mod from;
 mod item;
 mod layers;
-mod meta;
 mod metadata;
 mod node;
 mod numbers;
 mod profile;
-mod rows;
 mod stop;
 mod survey;
 mod tile;
 mod totals;
+mod worked;
 
-pub use engine::build;
+pub use engine::{build, builds_are_complete};
 pub use from::ProfileFrom;
-pub use rows::worked_rows;
 pub use stop::Stop;
 pub use totals::Totals;
+pub use worked::worked_rows;

@@ -2,7 +2,7 @@ ghost use Rattle.std.specs.Prelude.{◌≡◌, ◌<◌, IfOk, length, string_byt
 ghost use Rattle.profile_rules.specs.Fields.{layers_of};
 ghost use Rattle.build_one.specs.Metadata.{meta_layer, meta_layers, metadata_in};
 
-use crate::meta::{MetaLayer, metadata_text};
+use pmtiles_dirs::{MetaLayer, metadata_text};
 use profile_rules::{LayerInfo, Profile, fields, layers, name};
 use std::alloc::Global;
 use tb_types::{Memory, Text};
@@ -36,7 +36,7 @@ fn meta_layer(
     requires { number < length (layers_of profile.now) }
     ensures { IfOk result (λ layer. layer ≡ meta_layer profile.now (number, info.now)) }
 {
-    let id = Text::from_string(String::from_str(alloc, info.id.as_str())?);
+    let id = Text::copy_of(alloc, info.id.as_str())?;
     let fields = fields(alloc, profile, number)?;
     Ok(MetaLayer { id, fields })
 }

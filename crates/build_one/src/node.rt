@@ -1,5 +1,5 @@
 ghost use Rattle.std.specs.Prelude.{◌≡◌, ◌++◌, OnOk, IfOk, All, map, pos};
-ghost use Rattle.tb_wire.specs.Zigzag.{zigzag_of};
+ghost use Rattle.tb_types.specs.Zigzag.{zigzag_of};
 ghost use Rattle.int_mercator.specs.Places.{grid_of};
 ghost use Rattle.build_one.specs.Items.{IsReadyItem};
 ghost use Rattle.build_one.specs.Rows.{feature_id, point_ints, projected, point_of, item_of, items_of};

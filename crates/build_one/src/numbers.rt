@@ -5,14 +5,8 @@ pub const POINT: u8 = 1;
 
 pub const MOVE_TO_ONE: u32 = 9;
 
-/// How wide and high a tile's grid is.
-pub const EXTENT: u32 = 4096;
-
 /// A tile of a directory's entry has fewer bytes than this, 4 GiB.
 pub const TILE_LIMIT: u64 = 1 << 32;
 
 /// The length of an archive's header.
 pub const HEADER_LEN: u64 = 127;
-
-/// A profile's text has at most so many bytes.
-pub const LONGEST_PROFILE: u64 = 1_048_576;

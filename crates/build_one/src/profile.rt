@@ -2,28 +2,28 @@ ghost use Rattle.std.specs.Prelude.{◌≡◌, ◌<◌, IfSome, length};
 ghost use Rattle.profile_rules.specs.Faults.{Gives};
 ghost use Rattle.profile_rules.specs.Profile.{profile_of};
 ghost use Rattle.profile_rules.specs.Sound.{IsSound};
+ghost use Rattle.tb_types.specs.Counts.{Counted};
 ghost use Rattle.build_one.specs.Due.{is_built, parts_from};
-ghost use Rattle.build_one.specs.Profiles.{IsKeyed, IsAlone, ReadsProfile, LoadsText, ProfileCounts};
+ghost use Rattle.build_one.specs.Profiles.{IsKeyed, IsAlone, ReadsProfile, LoadsText, profile_failed};
 
 use crate::from::ProfileFrom;
-use crate::numbers::LONGEST_PROFILE;
-use crate::stop::Stop;
+use crate::stop::ProfileStop;
 use profile_rules::{
-    Part, Profile, ProfileErr, ProfileWhy, Spot, has_points_only, one_rule, read_profile, zooms,
+    LONGEST_PROFILE, Part, Profile, ProfileErr, ProfileWhy, Spot, has_points_only, one_rule,
+    read_profile, zooms,
 };
 use std::alloc::Global;
 use tb_outside::Source;
-use tb_types::Whom;
 
 /// The profile of a build. A text is refused by its size before it is loaded.
 pub fn profile_from<P: Source>(
     alloc: Global,
     from: &ProfileFrom,
     source: &mut P,
-) -> Result<Profile, Stop>
+) -> Result<Profile, ProfileStop>
     requires keyed { IsKeyed from.now }
     ensures told { IfSome (parts_from from.now (P.seen source.old).bytes) (ReadsProfile result) }
-    ensures counts { ProfileCounts result (P.seen source.old).faults (P.seen source.new).faults }
+    ensures counts { Counted (profile_failed result) (P.seen source.old).faults (P.seen source.new).faults }
     ensures bytes { (P.seen source.new).bytes ≡ (P.seen source.old).bytes }
     ensures alone { IsAlone from.now → source.new ≡ source.old }
 {
@@ -34,35 +34,35 @@ pub fn profile_from<P: Source>(
 }
 
 // The profile whose text a source has.
-fn read_from<P: Source>(alloc: Global, source: &mut P) -> Result<Profile, Stop>
+fn read_from<P: Source>(alloc: Global, source: &mut P) -> Result<Profile, ProfileStop>
     ensures told { IfSome (P.seen source.old).bytes (λ text. ReadsProfile result (profile_of text)) }
-    ensures counts { ProfileCounts result (P.seen source.old).faults (P.seen source.new).faults }
+    ensures counts { Counted (profile_failed result) (P.seen source.old).faults (P.seen source.new).faults }
     ensures bytes { (P.seen source.new).bytes ≡ (P.seen source.old).bytes }
 {
     let text = match load_text(alloc, source) {
         Ok(text) => text,
-        Err(stop) => return Err(stop),
+        Err(e) => return Err(e),
     };
     match read_profile(alloc, &text) {
         Ok(profile) => Ok(profile),
-        Err(ProfileErr::Bad { spot, why }) => Err(Stop::Profile { spot, why }),
-        Err(ProfileErr::Memory) => Err(Stop::Memory),
+        Err(ProfileErr::Bad { spot, why }) => Err(ProfileStop::Bad { spot, why }),
+        Err(ProfileErr::Memory) => Err(ProfileStop::Memory),
     }
 }
 
 // The text of a profile, if it isn't too long.
 #[tactic(auto, unfolding(profile_rules::specs::Profile::profile_of))]
-fn load_text<P: Source>(alloc: Global, source: &mut P) -> Result<Vec<u8>, Stop>
+fn load_text<P: Source>(alloc: Global, source: &mut P) -> Result<Vec<u8>, ProfileStop>
     ensures told { IfSome (P.seen source.old).bytes (LoadsText result) }
-    ensures counts { ProfileCounts result (P.seen source.old).faults (P.seen source.new).faults }
+    ensures counts { Counted (profile_failed result) (P.seen source.old).faults (P.seen source.new).faults }
     ensures bytes { (P.seen source.new).bytes ≡ (P.seen source.old).bytes }
 {
     let size = match source.size() {
         Ok(size) => size,
-        Err(_) => return Err(Stop::Source(Whom::Profile)),
+        Err(_) => return Err(ProfileStop::Failed),
     };
-    if size > LONGEST_PROFILE {
-        return Err(Stop::Profile {
+    if size > LONGEST_PROFILE as u64 {
+        return Err(ProfileStop::Bad {
             spot: Spot {
                 part: Part::Top,
                 no: 0,
@@ -73,7 +73,7 @@ fn load_text<P: Source>(alloc: Global, source: &mut P) -> Result<Vec<u8>, Stop>
     let mut text = vec![in alloc; 0u8; size as usize]?;
     match source.load(0, &mut text) {
         Ok(()) => Ok(text),
-        Err(_) => Err(Stop::Source(Whom::Profile)),
+        Err(_) => Err(ProfileStop::Failed),
     }
 }
 

@@ -1,43 +1,38 @@
 ghost use Rattle.std.specs.Prelude.{◌≡◌, ◌+◌, ◌≤◌, All, IfOk, IfSome, OnOk, length};
+ghost use Rattle.tb_types.specs.Counts.{Counted};
 ghost use Rattle.pbf_blobs.specs.Answers.{IsShort};
 ghost use Rattle.build_one.specs.Contents.{content_at, contents_at, contents_of, IsBody};
 ghost use Rattle.profile_rules.specs.Sound.{IsSound};
 ghost use Rattle.build_one.specs.Found.{Takes, AreSound};
-ghost use Rattle.build_one.specs.Survey.{Surveys, SurveyCounts, LoadCounts};
+ghost use Rattle.build_one.specs.Survey.{Surveys, survey_failed, load_failed};
 
 use crate::found::Found;
-use crate::stop::Stop;
+use crate::stop::LoadStop;
 use int_mercator::Table;
 use pbf_blobs::{BlockAt, BlockKind, ScanStop, scan};
 use profile_rules::Profile;
 use std::alloc::Global;
 use tb_outside::Source;
-use tb_types::Whom;
-
-/// The reader that a build on one lane has.
-const READER: Whom = Whom::Lane(0);
 
 /// What the blocks of an extract hold, as far as a build needs it: its frames are scanned, and then each block is loaded,
 /// once. `Damage` where the extract is damaged, with the first fault of its frames, or else the first reason of the least
-/// damaged block; `Source` where the reader's count rose, also if there is damage.
+/// damaged block; `Failed` where the reader's count rose, also if there is damage.
 #[tactic(auto, unfolding(crate::specs::Contents::contents_of))]
 pub fn survey<R: Source>(
     alloc: Global,
     profile: &Profile,
     table: &Table,
     reader: &mut R,
-) -> Result<Found, Stop>
+) -> Result<Found, ScanStop>
     requires sound { IsSound profile.now }
     ensures told { IfSome (R.seen reader.old).bytes (λ extract. Surveys profile.now result (contents_of extract)) }
-    ensures counts { SurveyCounts result (R.seen reader.old).faults (R.seen reader.new).faults }
+    ensures counts { Counted (survey_failed result) (R.seen reader.old).faults (R.seen reader.new).faults }
     ensures bytes { (R.seen reader.new).bytes ≡ (R.seen reader.old).bytes }
     ensures ready { IfOk result (λ found. AreSound profile.now found.items.items) }
 {
     match scan(alloc, reader) {
         Ok(index) => take_blocks(alloc, profile, table, reader, index.blocks.as_slice()),
-        Err(ScanStop::Damage(damage)) => Err(Stop::Damage(damage)),
-        Err(ScanStop::Failed) => Err(Stop::Source(READER)),
-        Err(ScanStop::Memory) => Err(Stop::Memory),
+        Err(stop) => Err(stop),
     }
 }
 
@@ -48,11 +43,11 @@ fn take_blocks<R: Source>(
     table: &Table,
     reader: &mut R,
     blocks: &[BlockAt],
-) -> Result<Found, Stop>
+) -> Result<Found, ScanStop>
     requires sound { IsSound profile.now }
     requires within { IfSome (R.seen reader.old).bytes (λ extract. All (IsShort (length extract)) blocks.now) }
     ensures told { IfSome (R.seen reader.old).bytes (λ extract. Surveys profile.now result (contents_at extract blocks.now)) }
-    ensures counts { SurveyCounts result (R.seen reader.old).faults (R.seen reader.new).faults }
+    ensures counts { Counted (survey_failed result) (R.seen reader.old).faults (R.seen reader.new).faults }
     ensures bytes { (R.seen reader.new).bytes ≡ (R.seen reader.old).bytes }
     ensures ready { IfOk result (λ found. AreSound profile.now found.items.items) }
 {
@@ -60,11 +55,12 @@ fn take_blocks<R: Source>(
     for block in blocks {
         match take_block(&mut found, alloc, profile, table, reader, *block) {
             Ok(()) => {}
-            Err(stop) => return Err(stop),
+            Err(LoadStop::Failed) => return Err(ScanStop::Failed),
+            Err(LoadStop::Memory) => return Err(ScanStop::Memory),
         }
     }
     match found.damage {
-        Some(damage) => Err(Stop::Damage(damage)),
+        Some(damage) => Err(ScanStop::Damage(damage)),
         None => Ok(found),
     }
 }
@@ -77,11 +73,11 @@ fn take_block<R: Source>(
     table: &Table,
     reader: &mut R,
     block: BlockAt,
-) -> Result<(), Stop>
+) -> Result<(), LoadStop>
     requires sound { IsSound profile.now }
     requires within { IfSome (R.seen reader.old).bytes (λ extract. block.at + block.len ≤ length extract) }
     ensures told { IfSome (R.seen reader.old).bytes (λ extract. Takes profile.now found.old found.new result (content_at extract block)) }
-    ensures counts { LoadCounts result (R.seen reader.old).faults (R.seen reader.new).faults }
+    ensures counts { Counted (load_failed result) (R.seen reader.old).faults (R.seen reader.new).faults }
     ensures bytes { (R.seen reader.new).bytes ≡ (R.seen reader.old).bytes }
     ensures ready { AreSound profile.now found.old.items.items → OnOk result (AreSound profile.now found.new.items.items) }
 {
@@ -91,15 +87,15 @@ fn take_block<R: Source>(
     };
     match found.take(alloc, profile, table, block.no, block.kind, &body) {
         Ok(()) => Ok(()),
-        Err(_) => Err(Stop::Memory),
+        Err(_) => Err(LoadStop::Memory),
     }
 }
 
 // The body of a block. That of a type which isn't read stays where it is.
-fn load_body<R: Source>(alloc: Global, reader: &mut R, block: BlockAt) -> Result<Vec<u8>, Stop>
+fn load_body<R: Source>(alloc: Global, reader: &mut R, block: BlockAt) -> Result<Vec<u8>, LoadStop>
     requires within { IfSome (R.seen reader.old).bytes (λ extract. block.at + block.len ≤ length extract) }
     ensures told { IfOk result (λ body. IfSome (R.seen reader.old).bytes (λ extract. IsBody extract block body.items)) }
-    ensures counts { LoadCounts result (R.seen reader.old).faults (R.seen reader.new).faults }
+    ensures counts { Counted (load_failed result) (R.seen reader.old).faults (R.seen reader.new).faults }
     ensures bytes { (R.seen reader.new).bytes ≡ (R.seen reader.old).bytes }
 {
     if block.kind == BlockKind::Other {
@@ -108,6 +104,6 @@ fn load_body<R: Source>(alloc: Global, reader: &mut R, block: BlockAt) -> Result
     let mut body = vec![in alloc; 0u8; block.len as usize]?;
     match reader.load(block.at, &mut body) {
         Ok(()) => Ok(body),
-        Err(_) => Err(Stop::Source(READER)),
+        Err(_) => Err(LoadStop::Failed),
     }
 }

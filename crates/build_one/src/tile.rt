@@ -6,11 +6,11 @@ ghost use Rattle.build_one.specs.Tile.{empty_layer, empty_layers, tile_of};
 
 use crate::item::Item;
 use crate::layers::fill_layers;
-use crate::numbers::{EXTENT, TILE_LIMIT};
+use crate::numbers::TILE_LIMIT;
 use mvt_codec::{LayerRows, encode_tile};
 use profile_rules::{LayerInfo, Profile, layers};
 use std::alloc::Global;
-use tb_types::{Memory, Seq, Text};
+use tb_types::{EXTENT, Memory, Seq, Text};
 
 /// The tile of zoom 0, if it has a row: the layers of the profile with these rows.
 pub fn tile_of(
@@ -44,7 +44,7 @@ fn empty_layers(alloc: Global, infos: &[LayerInfo]) -> Result<Vec<LayerRows>, Me
 fn empty_layer(alloc: Global, info: &LayerInfo) -> Result<LayerRows, Memory>
     ensures { IfOk result (λ layer. layer ≡ empty_layer info.now) }
 {
-    let name = Text::from_string(String::from_str(alloc, info.id.as_str())?);
+    let name = Text::copy_of(alloc, info.id.as_str())?;
     Ok(LayerRows {
         name,
         extent: EXTENT,

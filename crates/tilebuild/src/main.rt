@@ -1,25 +1,17 @@
 //! The program: takes a command line, gives the files that it names to the command, and its status to the shell.
 #![tactic(auto)]
 
-use build_cli::{Names, names_of, run_one};
+use build_cli::{Names, names_of, refuse_memory, run_one};
 use std::alloc::Global;
 use std::env;
 use std::process::ExitCode;
-use tb_outside::{FileSink, FileSource, FileSpill, Lane, Sink};
+use tb_outside::{FileSink, FileSource, FileSpill, Lane};
 use tb_types::{Memory, Seq, Text};
-
-/// The status of want of memory, and its line.
-const WANT_OF_MEMORY: u8 = 10;
-
-const MEMORY_LINE: &[u8] = b"want of memory\n";
 
 fn main(rt: HostRuntime) -> ExitCode {
     ExitCode::from(match run(&rt) {
         Ok(status) => status,
-        Err(Memory) => {
-            let _told = FileSink::stdout(&rt).append(MEMORY_LINE);
-            WANT_OF_MEMORY
-        }
+        Err(Memory) => refuse_memory(&mut FileSink::stdout(&rt)),
     })
 }
 

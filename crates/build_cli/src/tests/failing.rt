@@ -5,7 +5,12 @@ use std::test::Fail;
 // body.
 const READER_CALLS: u64 = 7;
 
-// The same with a compressed header.
+// The pieces of the line of success, and that line.
+const SUCCESS_CALLS: u64 = 9;
+
+const SUCCESS: &[u8] = b"built: tiles 1, entries 1, contents 1, bytes 257\n";
+
+// The extract with a compressed header.
 const DAMAGED: &[u8] =
     b"\x00\x00\x00\x0d\x0a\x09OSMHeader\x18\x02\x1a\x00\x00\x00\x00\x0b\x0a\x07OSMData\x18\x25\x0a\x23\x0a\x11\x0a\x00\x0a\x07amenity\x0a\x04cafe\x12\x0e\x0a\x0c\x08\x02\x12\x01\x01\x1a\x01\x02\x40\x00\x48\x00";
 
@@ -44,7 +49,7 @@ fn sink_faults_are_told(rt: HostRuntime) -> Result<(), Fail> {
     let alloc = rt.alloc();
     let whole = nodes(alloc, "amenity", CAFE, &NONE)?.archive;
     // The calls that fail, the room of the archive's sink, the status, how much of the archive is there, the console.
-    let cases: [(Faults<'_>, u8, usize, &[u8]); 5] = [
+    let cases: [(Faults<'_>, u8, usize, &[u8]); 4] = [
         (
             Faults {
                 archive: &[0],
@@ -61,16 +66,7 @@ fn sink_faults_are_told(rt: HostRuntime) -> Result<(), Fail> {
             },
             0,
             257,
-            b"built: tiles 1, entries 1, contents 1, bytes 257\n",
-        ),
-        (
-            Faults {
-                console: &[0],
-                ..NONE
-            },
-            9,
-            257,
-            b"",
+            SUCCESS,
         ),
         (
             Faults {
@@ -88,9 +84,19 @@ fn sink_faults_are_told(rt: HostRuntime) -> Result<(), Fail> {
         assert!(rt; ran.status == status && ran.archive.bytes().len() == len);
         assert!(rt;
             whole.bytes().starts_with(ran.archive.bytes()),
-            "a front of the archive"
+            "a prefix of the archive"
         );
         assert!(rt; ran.console.bytes() == line);
+    }
+    for call in 0..SUCCESS_CALLS + 1 {
+        let faults = Faults {
+            console: &[call],
+            ..NONE
+        };
+        let ran = nodes(alloc, "amenity", CAFE, &faults)?;
+        let fails = call < SUCCESS_CALLS;
+        assert!(rt; ran.status == if fails { 9 } else { 0 }, "call {call}");
+        assert!(rt; SUCCESS.starts_with(ran.console.bytes()) && ran.archive.bytes().len() == 257);
     }
     let silent = Faults {
         console: &[0],

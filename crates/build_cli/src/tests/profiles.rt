@@ -44,6 +44,13 @@ fn profiles_are_judged(rt: HostRuntime) -> Result<(), Fail> {
         assert!(rt; ran.status == status && ran.archive.bytes().is_empty());
         assert!(rt; ran.console.bytes() == line, "{profile:?}");
     }
+    // The reader isn't asked where the profile is refused.
+    let faults = Faults {
+        reader: &[0],
+        ..NONE
+    };
+    let ran = build(alloc, b"", CAFE, &faults)?;
+    assert!(rt; ran.status == 3);
     Ok(())
 }
 
@@ -68,7 +75,7 @@ fn rows_stand_by_layer_and_order(rt: HostRuntime) -> Result<(), Fail> {
         ran.archive
             .bytes()
             .get(..before)
-            .is_some_and(|front| front.ends_with(metadata))
+            .is_some_and(|prefix| prefix.ends_with(metadata))
     );
     Ok(())
 }

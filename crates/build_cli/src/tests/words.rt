@@ -5,7 +5,7 @@ use std::test::Fail;
 #[test]
 fn words_name_files(rt: HostRuntime) -> Result<(), Fail> {
     let alloc = rt.alloc();
-    let cases: [&[&str]; 7] = [
+    let cases: [&[&str]; 8] = [
         &[],
         &["nodes", "amenity", "e"],
         &["nodes", "amenity", "e", "a", "b"],
@@ -13,6 +13,7 @@ fn words_name_files(rt: HostRuntime) -> Result<(), Fail> {
         &["nodes", "--lanes", "e", "a"],
         &["rehearse", "p", "e", "a"],
         &["--help", "amenity", "e", "a"],
+        &["build", "p", "e", "--lanes"],
     ];
     for case in cases {
         let mut words = Vec::new(alloc);

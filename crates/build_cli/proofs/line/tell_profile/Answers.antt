@@ -1,4 +1,4 @@
-use Rattle.std.proofs.Common.{◌∙◌, refl, subst}
+use Rattle.std.proofs.Common.{refl, subst}
 use Rattle.tb_outside.specs.Sink.{SinkAnswers}
 use Rattle.build_cli.specs.Line.{profile_line}
 use Rattle.build_cli.proofs.Appending.{also}

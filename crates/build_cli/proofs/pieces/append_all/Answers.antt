@@ -15,4 +15,4 @@ loop-piece-preserved g c =
 pub returns-in-Err : goal.returns-in-Err
 returns-in-Err g c =
     let refused = c.in-Err.ensures {u = tt} in
-    appended-fails c.args.pieces.now (g.K.Sink.seen c.args.sink.now) (g.K.Sink.seen c.loop-piece.sink) (g.K.Sink.seen c.append.new.self) c.loop-piece.piece-index _ c.in-Err.e c.loop-piece-test.true c.loop-piece.invariant refused.front refused.err refused.never_falls
+    appended-fails c.args.pieces.now (g.K.Sink.seen c.args.sink.now) (g.K.Sink.seen c.loop-piece.sink) (g.K.Sink.seen c.append.new.self) c.loop-piece.piece-index _ c.in-Err.e c.loop-piece-test.true c.loop-piece.invariant refused.prefix refused.err refused.never_falls

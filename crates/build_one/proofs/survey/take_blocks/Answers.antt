@@ -1,4 +1,4 @@
-use Rattle.build_one.proofs.Surveying.{surveying-start, surveying-next, within-block, failed-told, failed-counts, whole-damage, whole-found}
+use Rattle.build_one.proofs.Surveying.{surveying-start, surveying-next, within-block}
 use Rattle.build_one.proofs.survey.take_blocks.Goals as goal
 
 pub loop-block-init : goal.loop-block-init
@@ -7,14 +7,6 @@ loop-block-init g c = surveying-start c.args.profile.now c.args.blocks.now (g.R.
 pub take_block-requires : goal.take_block-requires
 take_block-requires g c =
     record { sound = c.requires.sound; within = within-block (g.R.Source.seen c.args.reader.now).bytes (g.R.Source.seen c.loop-block.reader).bytes c.args.blocks.now c.loop-block.block-index _ c.loop-block-test.true c.loop-block.invariant.bytes c.requires.within }
-
-pub returns-in-Err-clause-told : goal.returns-in-Err-clause-told
-returns-in-Err-clause-told g c =
-    failed-told (g.R.Source.seen c.args.reader.now).bytes c.args.profile.now c.args.blocks.now c.in-Err.stop (g.R.Source.seen c.loop-block.reader).faults (g.R.Source.seen c.take_block.new.reader).faults ((c.in-Err.ensures {u = tt}).counts)
-
-pub returns-in-Err-clause-counts : goal.returns-in-Err-clause-counts
-returns-in-Err-clause-counts g c =
-    failed-counts c.in-Err.stop (g.R.Source.seen c.args.reader.now).faults (g.R.Source.seen c.loop-block.reader).faults (g.R.Source.seen c.take_block.new.reader).faults c.loop-block.invariant.faults ((c.in-Err.ensures {u = tt}).counts)
 
 pub loop-block-preserved : goal.loop-block-preserved
 loop-block-preserved g c =

@@ -1,0 +1,23 @@
+-- The statuses of the program, by what ends a command.
+use Rattle.std.specs.Prelude.{ℕ}
+use Rattle.build_one.specs.declared.stop.Stop.TheVariants as stops
+use Rattle.build_cli.specs.declared.status.Refusal.{Refusal}
+use Rattle.build_cli.specs.declared.status.Refusal.TheVariants.{Words, Stopped}
+
+-- a command that was done
+abbrev pub done : ℕ
+done = 0
+
+-- the console failed behind the archive, or a sink before it was whole
+abbrev pub sink_failed : ℕ
+sink_failed = 9
+
+-- the statuses in the order in which a build finds what they tell of, but for the last, which may come at any time
+abbrev pub status_of : Refusal → ℕ
+status_of Words = 2
+status_of (Stopped (stops.Profile spot why)) = 3
+status_of (Stopped stops.NotYet) = 13
+status_of (Stopped (stops.Source whom)) = 7
+status_of (Stopped (stops.Damage damage)) = 4
+status_of (Stopped stops.Sink) = 9
+status_of (Stopped stops.Memory) = 10

@@ -1,8 +1,0 @@
-use Rattle.std.proofs.Common.{◌≡◌, drop}
-use Rattle.serde_json.specs.Data.{no_members}
-use Rattle.serde_json.specs.View.{members_view}
-use Rattle.build_one.specs.Meta.{with_fields}
-use Rattle.build_one.proofs.meta.fields_value.Given as goal
-
-abbrev pub invariant-loop-field : goal.invariant-loop-field
-invariant-loop-field l = with_fields (members_view l.members.entries) (drop l.field-index l.fields) ≡ with_fields no_members l.fields

@@ -1,0 +1,64 @@
+-- What ends a build, and why it came.
+use Rattle.std.specs.Prelude.{◌≡◌, Bool, true, false}
+use Rattle.tb_types.specs.declared.trouble.Whom.{Whom}
+use Rattle.tb_types.specs.declared.trouble.Whom.TheVariants as whom
+use Rattle.build_one.specs.declared.stop.Stop.{Stop}
+use Rattle.build_one.specs.declared.stop.Stop.TheVariants as stops
+use Rattle.build_one.specs.declared.stop.ProfileStop.{ProfileStop}
+use Rattle.build_one.specs.declared.stop.ProfileStop.TheVariants as profile_stops
+use Rattle.build_one.specs.declared.stop.MakeStop.{MakeStop}
+use Rattle.build_one.specs.declared.stop.MakeStop.TheVariants as make_stops
+use Rattle.build_one.specs.Objects.{Role, reading, spilling, writing}
+
+-- why a build ended: by the contents of profile and extract, by the count of an object that rose, or since memory wants
+pub data Cause : Type 0 where
+  contents : Cause
+  count : Role → Whom → Cause
+  memory : Cause
+
+abbrev pub cause_of : Stop → Cause
+cause_of (stops.Profile spot why) = contents
+cause_of (stops.Damage damage) = contents
+cause_of (stops.Source w) = count reading w
+cause_of stops.Sink = count writing whom.Archive
+cause_of stops.NotYet = contents
+cause_of stops.Memory = memory
+
+-- the stop is one of contents, and P holds; of others nothing is said
+abbrev pub IfContents : Cause → Type 0 → Type 0
+IfContents contents P = P
+IfContents (count role w) P = Unit {0}
+IfContents memory P = Unit {0}
+
+-- the archive's sink failed
+abbrev pub is_written : Cause → Bool
+is_written contents = false
+is_written (count reading w) = false
+is_written (count spilling w) = false
+is_written (count writing w) = true
+is_written memory = false
+
+-- the reader isn't touched: the profile is refused, or its source failed
+abbrev pub is_early : Stop → Bool
+is_early (stops.Profile spot why) = true
+is_early (stops.Source whom.Profile) = true
+is_early (stops.Source (whom.Lane k)) = false
+is_early (stops.Source whom.Spool) = false
+is_early (stops.Source whom.Archive) = false
+is_early (stops.Source whom.Console) = false
+is_early (stops.Damage damage) = false
+is_early stops.Sink = false
+is_early stops.NotYet = false
+is_early stops.Memory = false
+
+-- what the stops of the stages are for the build
+abbrev pub stop_of_profile : ProfileStop → Stop
+stop_of_profile (profile_stops.Bad spot why) = stops.Profile spot why
+stop_of_profile profile_stops.Failed = stops.Source whom.Profile
+stop_of_profile profile_stops.Memory = stops.Memory
+
+abbrev pub stop_of_make : MakeStop → Stop
+stop_of_make (make_stops.Damage damage) = stops.Damage damage
+stop_of_make make_stops.TooLarge = stops.NotYet
+stop_of_make make_stops.Failed = stops.Source (whom.Lane 0)
+stop_of_make make_stops.Memory = stops.Memory
