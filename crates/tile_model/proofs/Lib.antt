@@ -1,0 +1,12 @@
+pub mod Walking
+pub mod Tiled
+pub mod Differing
+pub mod Lists
+pub mod TileLists
+pub mod PointTiles
+pub mod KeyOrder
+pub mod KeySorts
+pub mod Built
+pub mod PointFeatures
+pub mod WorkedCases
+pub mod Proved

@@ -1,0 +1,9 @@
+pub mod Walks
+pub mod TileLaws
+pub mod Keys
+pub mod Features
+pub mod Tiles
+pub mod BuildLaws
+pub mod Points
+pub mod Worked
+pub mod PointLaws
