@@ -1,5 +1,5 @@
 #!/usr/bin/env python3
-"""Looks over what no proof keeps: the map and the README agree, heads and sizes of files, edits a crate."""
+"""Looks over what no proof keeps: the map and the README agree, heads, pages and sizes of files, edits a crate."""
 import os
 import re
 import subprocess
@@ -7,6 +7,9 @@ import sys
 
 FILE_LINES = 400
 README_LINE = 200
+PAGE_LINES = 40
+PAGE_HEADS = ["What it gives", "What a contract sees", "Proved", "Only tested"]
+EDITS = range(5, 7)
 
 faults = []
 
@@ -48,8 +51,28 @@ def look_at_crate(crate, rows):
         faults.append(f"README.md: the row of {crate} isn't what {root} says")
     edits = [name for name in os.listdir(f"crates/{crate}") if name == "must-fail"]
     count = len(os.listdir(f"crates/{crate}/must-fail")) if edits else 0
-    if root.endswith("lib.rt") and not 5 <= count <= 10:
-        faults.append(f"{crate}: {count} must-fail edits, and not five to ten")
+    if root.endswith("lib.rt") and count not in EDITS:
+        faults.append(f"{crate}: {count} must-fail edits, and not five or six")
+    look_at_page(crate)
+
+
+def look_at_page(crate):
+    """The page of a crate: what it gives, what contracts see, what is proved, and what is only tested."""
+    path = f"crates/{crate}/README.md"
+    if not os.path.exists(path):
+        faults.append(f"{crate}: no README.md")
+        return
+    lines = read(path).rstrip("\n").split("\n")
+    if [line[3:] for line in lines if line.startswith("## ")] != PAGE_HEADS:
+        faults.append(f"{path}: its heads aren't {', '.join(PAGE_HEADS)}")
+    if len(lines) > PAGE_LINES:
+        faults.append(f"{path}: more than {PAGE_LINES} lines")
+    if any(len(line) > README_LINE for line in lines):
+        faults.append(f"{path}: a line of more than {README_LINE} characters")
+
+
+def headings_of(text, pattern):
+    return re.findall(pattern, text, re.M)
 
 
 def rows_of(readme):
@@ -63,6 +86,8 @@ def look():
     rows = rows_of(readme)
     if [row[0] for row in rows] != crates:
         faults.append("README.md: its table doesn't list the crates of crates.txt in their order")
+    if headings_of(read("crates.txt"), r"^# -- (.+)$") != headings_of(readme, r"^\*\*(.+)\*\*$"):
+        faults.append("README.md: its tables don't stand under the headings of crates.txt")
     table = {name: (takes, gives) for name, takes, gives in rows}
     for crate in crates:
         look_at_crate(crate, table)
