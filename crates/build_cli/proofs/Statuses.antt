@@ -4,12 +4,13 @@ use Rattle.tb_outside.specs.Sink.{SinkSeen, with_more}
 use Rattle.build_one.specs.declared.from.ProfileFrom.{ProfileFrom}
 use Rattle.build_one.specs.declared.stop.Stop.{Stop}
 use Rattle.build_one.specs.declared.stop.Stop.TheVariants as stops
-use Rattle.build_one.specs.declared.totals.Totals.{Totals}
+use Rattle.pmtiles_file.specs.declared.totals.Totals.{Totals}
+use Rattle.tb_outside.specs.Spill.{Runs}
 use Rattle.build_one.specs.Objects.{Objects, extract_in}
 use Rattle.build_one.specs.Due.{Due, due_in}
 use Rattle.build_one.specs.Due as builds
 use Rattle.build_cli.specs.Told.{due_of}
-use Rattle.build_one.specs.Answers.{BuildAnswers, OnBuilt}
+use Rattle.build_one.specs.Answers.{BuildAnswers, OnBuilt, IfTold}
 use Rattle.build_cli.specs.Command.{Command, build, source_of}
 use Rattle.build_cli.specs.Answers.{Tells, AnswersCommand, due_of_command, IsWritten}
 use Rattle.build_cli.specs.Status.{done, status_of}
@@ -19,6 +20,7 @@ never_done : (stop : Stop) → status_of (Stopped stop) ≡ 0 → ⊥
 never_done (stops.Profile spot why) e = absurd (omega arith)
 never_done (stops.Damage damage) e = absurd (omega arith)
 never_done (stops.Source w) e = absurd (omega arith)
+never_done (stops.Spill w) e = absurd (omega arith)
 never_done stops.Sink e = absurd (omega arith)
 never_done stops.NotYet e = absurd (omega arith)
 never_done stops.Memory e = absurd (omega arith)
@@ -27,6 +29,7 @@ never_words : (stop : Stop) → status_of (Stopped stop) ≡ 2 → ⊥
 never_words (stops.Profile spot why) e = absurd (omega arith)
 never_words (stops.Damage damage) e = absurd (omega arith)
 never_words (stops.Source w) e = absurd (omega arith)
+never_words (stops.Spill w) e = absurd (omega arith)
 never_words stops.Sink e = absurd (omega arith)
 never_words stops.NotYet e = absurd (omega arith)
 never_words stops.Memory e = absurd (omega arith)
@@ -35,8 +38,12 @@ written : (from : ProfileFrom) (before after : Objects) (console new_console : S
 written from before after console new_console answer (Ok totals) told built is = built.written
 written from before after console new_console answer (Err stop) told built is = absurd (never_done stop (sym told.0 ∙ is))
 
+if_told : (runs : Option Runs) (P : Type 0) → P → IfTold runs P
+if_told None P h = tt
+if_told (Some told) P h = h
+
 pub done_written : (command : Option Command) (before after : Objects) (console new_console : SinkSeen) (answer : ℕ) → AnswersCommand command before after console new_console answer → answer ≡ done → IsWritten (due_of_command command before) before after
-done_written None before after console new_console answer h is = tt
+done_written None before after console new_console answer h is = if_told before.spool.runs _ tt
 done_written (Some (build rules extract archive)) before after console new_console answer h is = written (source_of rules) before after console new_console answer h.result h.told h.built is
 
 understood : (console new_console : SinkSeen) (answer : ℕ) (result : Result Totals Stop) → Tells result console new_console answer → answer ≡ 2 → ⊥
@@ -50,23 +57,29 @@ only_words (Some (build rules extract archive)) before after console new_console
     (λ is. absurd (understood console new_console answer h.result h.told is), λ none. absurd cc)
 
 -- the same in the words of objects that tell
-pub grown : (due : Option Due) (before after : Objects) (old new : List ℕ) → IsWritten due before after → before.archive.bytes ≡ Some old → after.archive.bytes ≡ Some new → IfSome due (λ d. OnBuilt d (λ built. new ≡ old ++ built.bytes))
-grown None before after old new h was is = tt
-grown (Some (Err stop)) before after old new h was is = h
-grown (Some (Ok built)) before after old new h was is =
-    let same : Some new ≡ Some (old ++ built.bytes) = sym is ∙ (h ∙ ap (λ bytes. with_more bytes built.bytes) was) in
+told_by : (runs : Option Runs) (told : Runs) (P : Type 0) → runs ≡ Some told → IfTold runs P → P
+told_by runs told P is h = subst (λ (o : Option Runs). IfTold o P) is h
+
+pub grown : (due : Option Due) (before after : Objects) (told : Runs) (old new : List ℕ) → IsWritten due before after → before.spool.runs ≡ Some told → before.archive.bytes ≡ Some old → after.archive.bytes ≡ Some new
+    → IfSome due (λ d. OnBuilt d (λ built. new ≡ old ++ built.bytes))
+grown None before after told old new h runs was is = tt
+grown (Some (Err stop)) before after told old new h runs was is = told_by before.spool.runs told ⊥ runs h
+grown (Some (Ok built)) before after told old new h runs was is =
+    let grew : after.archive.bytes ≡ with_more before.archive.bytes built.bytes = told_by before.spool.runs told _ runs h in
+    let same : Some new ≡ Some (old ++ built.bytes) = sym is ∙ (grew ∙ ap (λ bytes. with_more bytes built.bytes) was) in
     cc
 
-pub told_grown : (command : Option Command) (before after : Objects) (profile reader old new : List ℕ) → before.profile.bytes ≡ Some profile → extract_in before ≡ Some reader → IsWritten (due_of_command command before) before after
-    → before.archive.bytes ≡ Some old → after.archive.bytes ≡ Some new → IfSome (due_of command profile reader) (λ d. OnBuilt d (λ built. new ≡ old ++ built.bytes))
-told_grown None before after profile reader old new p r h was is = tt
-told_grown (Some (build rules extract archive)) before after profile reader old new p r h was is =
+pub told_grown : (command : Option Command) (before after : Objects) (profile reader old new : List ℕ) (told : Runs) → before.profile.bytes ≡ Some profile → extract_in before ≡ Some reader → before.spool.runs ≡ Some told
+    → IsWritten (due_of_command command before) before after → before.archive.bytes ≡ Some old → after.archive.bytes ≡ Some new → IfSome (due_of command profile reader) (λ d. OnBuilt d (λ built. new ≡ old ++ built.bytes))
+told_grown None before after profile reader old new told p r runs h was is = tt
+told_grown (Some (build rules extract archive)) before after profile reader old new told p r runs h was is =
     let same : builds.due_of (source_of rules) before.profile.bytes (extract_in before) ≡ builds.due_of (source_of rules) (Some profile) (Some reader) =
     ap (λ t. builds.due_of (source_of rules) t (extract_in before)) p ∙ ap (λ t. builds.due_of (source_of rules) (Some profile) t) r in
-    grown (builds.due_of (source_of rules) (Some profile) (Some reader)) before after old new (subst (λ (o : Option Due). IsWritten o before after) same h) was is
+    grown (builds.due_of (source_of rules) (Some profile) (Some reader)) before after told old new (subst (λ (o : Option Due). IsWritten o before after) same h) runs was is
 
 -- both of an answer
-pub told_done : (command : Option Command) (before after : Objects) (console new_console : SinkSeen) (answer : ℕ) (profile reader old new : List ℕ) → AnswersCommand command before after console new_console answer → answer ≡ done
-    → before.profile.bytes ≡ Some profile → extract_in before ≡ Some reader → before.archive.bytes ≡ Some old → after.archive.bytes ≡ Some new → IfSome (due_of command profile reader) (λ d. OnBuilt d (λ built. new ≡ old ++ built.bytes))
-told_done command before after console new_console answer profile reader old new h is p r was grew =
-    told_grown command before after profile reader old new p r (done_written command before after console new_console answer h is) was grew
+pub told_done : (command : Option Command) (before after : Objects) (console new_console : SinkSeen) (answer : ℕ) (profile reader old new : List ℕ) (told : Runs) → AnswersCommand command before after console new_console answer → answer ≡ done
+    → before.profile.bytes ≡ Some profile → extract_in before ≡ Some reader → before.spool.runs ≡ Some told → before.archive.bytes ≡ Some old → after.archive.bytes ≡ Some new
+    → IfSome (due_of command profile reader) (λ d. OnBuilt d (λ built. new ≡ old ++ built.bytes))
+told_done command before after console new_console answer profile reader old new told h is p r runs was grew =
+    told_grown command before after profile reader old new told p r runs (done_written command before after console new_console answer h is) was grew

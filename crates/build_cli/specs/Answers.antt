@@ -4,10 +4,10 @@ use Rattle.tb_types.specs.Counts.{Rose}
 use Rattle.tb_outside.specs.Sink.{SinkSeen, with_more, GrowsByPrefix}
 use Rattle.build_one.specs.declared.from.ProfileFrom.{ProfileFrom}
 use Rattle.build_one.specs.declared.stop.Stop.{Stop}
-use Rattle.build_one.specs.declared.totals.Totals.{Totals}
+use Rattle.pmtiles_file.specs.declared.totals.Totals.{Totals}
 use Rattle.build_one.specs.Objects.{Objects}
 use Rattle.build_one.specs.Due.{Due, due_in}
-use Rattle.build_one.specs.Answers.{BuildAnswers, OnBuilt}
+use Rattle.build_one.specs.Answers.{BuildAnswers, OnBuilt, IfTold}
 use Rattle.build_cli.specs.Command.{Command, build, command_of, source_of}
 use Rattle.build_cli.specs.Line.{success_line, line_of}
 use Rattle.build_cli.specs.Status.{done, sink_failed, status_of}
@@ -60,9 +60,9 @@ abbrev pub due_of_command : Option Command → Objects → Option Due
 due_of_command None before = None
 due_of_command (Some (build rules extract archive)) before = due_in (source_of rules) before
 
--- an archive is due, and stands behind what the archive's sink had
+-- an archive is due, and stands behind what the archive's sink had, where the spool tells its runs
 abbrev pub IsWritten : Option Due → Objects → Objects → Type 0
-IsWritten due before after = IfSome due (λ d. OnBuilt d (λ built. after.archive.bytes ≡ with_more before.archive.bytes built.bytes))
+IsWritten due before after = IfTold before.spool.runs (IfSome due (λ d. OnBuilt d (λ built. after.archive.bytes ≡ with_more before.archive.bytes built.bytes)))
 
 -- status 0 means that the archive that is due was written
 abbrev pub DoneMeansWritten : Type 0

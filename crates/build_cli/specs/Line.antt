@@ -12,7 +12,7 @@ use Rattle.profile_rules.specs.declared.fault.Spot.{Spot}
 use Rattle.profile_rules.specs.declared.fault.ProfileWhy.{ProfileWhy}
 use Rattle.profile_rules.specs.declared.fault.ProfileWhy.TheVariants as faults
 use Rattle.build_one.specs.declared.stop.Stop.TheVariants as stops
-use Rattle.build_one.specs.declared.totals.Totals.{Totals}
+use Rattle.pmtiles_file.specs.declared.totals.Totals.{Totals}
 use Rattle.build_cli.specs.declared.status.Refusal.{Refusal}
 use Rattle.build_cli.specs.declared.status.Refusal.TheVariants.{Words, Stopped}
 
@@ -58,9 +58,16 @@ lane_text whom.Spool = []
 lane_text whom.Archive = []
 lane_text whom.Console = []
 
--- the line of a source that failed
-unfoldable pub source_line : Whom → List ℕ
-source_line w = concat (codes "source: " ∷ whom_text w ∷ lane_text w ∷ codes "\n" ∷ [])
+-- the line of an object that failed: what it is for, and its name
+unfoldable pub object_line : List ℕ → Whom → List ℕ
+object_line role w = concat (role ∷ whom_text w ∷ lane_text w ∷ codes "\n" ∷ [])
+
+-- of a source, and of a spill
+abbrev pub source_line : Whom → List ℕ
+source_line w = object_line (codes "source: ") w
+
+abbrev pub spill_line : Whom → List ℕ
+spill_line w = object_line (codes "spill: ") w
 
 -- the part of a profile: its kind, and its number where there are several
 unfoldable pub part_text : Part → List ℕ
@@ -111,6 +118,7 @@ line_of Words = words_line
 line_of (Stopped (stops.Profile spot why)) = profile_line spot why
 line_of (Stopped (stops.Damage damage)) = damage_line damage
 line_of (Stopped (stops.Source w)) = source_line w
+line_of (Stopped (stops.Spill w)) = spill_line w
 line_of (Stopped stops.Sink) = sink_line
 line_of (Stopped stops.NotYet) = not_yet_line
 line_of (Stopped stops.Memory) = memory_line

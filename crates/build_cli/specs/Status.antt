@@ -19,5 +19,6 @@ status_of (Stopped (stops.Profile spot why)) = 3
 status_of (Stopped stops.NotYet) = 13
 status_of (Stopped (stops.Source whom)) = 7
 status_of (Stopped (stops.Damage damage)) = 4
+status_of (Stopped (stops.Spill whom)) = 8
 status_of (Stopped stops.Sink) = 9
 status_of (Stopped stops.Memory) = 10

@@ -1,6 +1,6 @@
 ghost use Rattle.std.specs.Prelude.{◌≡◌};
 ghost use Rattle.tb_outside.specs.Sink.{SinkAnswers};
-ghost use Rattle.build_cli.specs.Line.{success_line, line_of, source_line, whom_text, lane_text, damage_line, why_text, profile_line, part_text, number_text, fault_text};
+ghost use Rattle.build_cli.specs.Line.{success_line, line_of, object_line, whom_text, lane_text, damage_line, why_text, profile_line, part_text, number_text, fault_text};
 ghost use Rattle.build_cli.specs.Answers.{HasLine, Tells};
 ghost use Rattle.build_cli.specs.Status.{status_of};
 
@@ -72,22 +72,24 @@ fn tell_refusal<K: Sink>(console: &mut K, refusal: Refusal) -> Result<(), Failed
         Refusal::Words => console.append(b"words not understood\n"),
         Refusal::Stopped(Stop::Profile { spot, why }) => tell_profile(console, spot, why),
         Refusal::Stopped(Stop::Damage(damage)) => tell_damage(console, damage),
-        Refusal::Stopped(Stop::Source(whom)) => tell_source(console, whom),
+        Refusal::Stopped(Stop::Source(whom)) => tell_object(console, b"source: ", whom),
+        Refusal::Stopped(Stop::Spill(whom)) => tell_object(console, b"spill: ", whom),
         Refusal::Stopped(Stop::Sink) => console.append(b"sink: archive\n"),
         Refusal::Stopped(Stop::NotYet) => console.append(b"not built yet\n"),
         Refusal::Stopped(Stop::Memory) => console.append(b"want of memory\n"),
     }
 }
 
-#[tactic(auto, unfolding(crate::specs::Line::source_line))]
-fn tell_source<K: Sink>(console: &mut K, whom: Whom) -> Result<(), Failed>
-    ensures { SinkAnswers (K.seen console.old) (K.seen console.new) (source_line whom) result }
+// Appends the line of an object that failed.
+#[tactic(auto, unfolding(crate::specs::Line::object_line))]
+fn tell_object<K: Sink>(console: &mut K, role: &'static [u8], whom: Whom) -> Result<(), Failed>
+    ensures { SinkAnswers (K.seen console.old) (K.seen console.new) (object_line role.now whom) result }
 {
     let mut digits = Buffer::new();
     append_all(
         console,
         &[
-            b"source: ".as_slice(),
+            role,
             whom_text(whom),
             lane_text(&mut digits, whom),
             b"\n".as_slice(),

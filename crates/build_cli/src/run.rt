@@ -16,10 +16,10 @@ use std::alloc::Global;
 use tb_outside::{Lane, Sink, Source, Spill};
 
 /// Works one command on one lane, and answers its status: 0 done, 2 no command, 3 the profile is refused, 4 the extract is
-/// damaged, 7 a source failed, 9 a sink failed, 10 want of memory, 13 not built yet.
+/// damaged, 7 a source failed, 8 the spool failed, 9 a sink failed, 10 want of memory, 13 not built yet.
 ///
-/// The console gets one line. The archive's sink gets nothing before all of it is made, so it holds the whole archive
-/// (status 0, and 9 where only the console failed), a prefix of it (9), or nothing new.
+/// The console gets one line. The archive's sink gets nothing before all tiles stand in the spool, so it holds the whole archive
+/// (status 0, and 9 where only the console failed), a prefix of it (8 and 9), or nothing new.
 pub fn run_one<R: Source, S: Spill, K: Sink>(
     alloc: Global,
     words: &[String],
@@ -33,7 +33,6 @@ pub fn run_one<R: Source, S: Spill, K: Sink>(
         (one_lane R.seen R.seen S.seen K.seen profile.old lane.old spool.old archive.old)
         (one_lane R.seen R.seen S.seen K.seen profile.new lane.new spool.new archive.new) (K.seen console.old) (K.seen console.new) result }
     ensures spill { lane.new.spill ≡ lane.old.spill }
-    ensures spool { spool.new ≡ spool.old }
 {
     match command_of(words) {
         None => refuse(console, Refusal::Words),
@@ -57,7 +56,6 @@ fn build_by<R: Source, S: Spill, K: Sink>(
     ensures answers { BuildAnswers (source_of (seen_rules rules.entry)) (one_lane R.seen R.seen S.seen K.seen profile.old lane.old spool.old archive.old)
         (one_lane R.seen R.seen S.seen K.seen profile.new lane.new spool.new archive.new) result }
     ensures spill { lane.new.spill ≡ lane.old.spill }
-    ensures spool { spool.new ≡ spool.old }
 {
     match source_of(alloc, rules) {
         Ok(from) => build(alloc, from, profile, lane, spool, archive),

@@ -12,6 +12,7 @@ mod maps;
 mod places;
 mod profiles;
 mod words;
+mod zooms;
 
 use crate::run_one;
 use std::alloc::Global;
@@ -32,13 +33,14 @@ fn run(
     words: &[String],
     profile: MemSource,
     reader: MemSource,
+    spool: MemSpill,
     archive: &mut MemSink,
     console: &mut MemSink,
 ) -> Result<u8, Memory>
     ensures { IfOk result (λ status. status ≡ 0 → IfSome (due_of (command_of (map (λ word. string_bytes word) words.now)) profile.bytes reader.bytes) (λ d. OnBuilt d (λ built. archive.new.bytes ≡ archive.old.bytes ++ built.bytes))) }
 {
     let mut profile = profile;
-    let mut spool = MemSpill::new(alloc, Vec::new(alloc))?;
+    let mut spool = spool;
     let spill = MemSpill::new(alloc, Vec::new(alloc))?;
     let mut lane = Lane { reader, spill };
     Ok(run_one(
@@ -61,11 +63,12 @@ fn words_for(alloc: Global, name: &str, first: &str) -> Result<Vec<String>, Memo
     Ok(words)
 }
 
-/// Which calls of the sources and of the sinks fail, and how many bytes the archive's sink takes.
+/// Which calls of the sources, of the spool and of the sinks fail, and how many bytes the archive's sink takes.
 #[derive(Clone, Copy)]
 struct Faults<'a> {
     profile: &'a [u64],
     reader: &'a [u64],
+    spool: &'a [u64],
     archive: &'a [u64],
     console: &'a [u64],
     room: usize,
@@ -74,6 +77,7 @@ struct Faults<'a> {
 const NONE: Faults<'static> = Faults {
     profile: &[],
     reader: &[],
+    spool: &[],
     archive: &[],
     console: &[],
     room: 100_000,
@@ -111,9 +115,18 @@ fn run_words(
 ) -> Result<Ran, Memory> {
     let profile = reader_of(alloc, profile, faults.profile)?;
     let reader = reader_of(alloc, extract, faults.reader)?;
+    let spool = MemSpill::new(alloc, Vec::from_slice(alloc, faults.spool)?)?;
     let mut archive = sink_of(alloc, faults.room, faults.archive)?;
     let mut console = sink_of(alloc, 200, faults.console)?;
-    let status = run(alloc, words, profile, reader, &mut archive, &mut console)?;
+    let status = run(
+        alloc,
+        words,
+        profile,
+        reader,
+        spool,
+        &mut archive,
+        &mut console,
+    )?;
     Ok(Ran {
         status,
         archive,

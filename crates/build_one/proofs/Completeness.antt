@@ -5,26 +5,28 @@ use Rattle.tb_types.specs.declared.trouble.Whom.TheVariants as whom
 use Rattle.build_one.specs.declared.from.ProfileFrom.{ProfileFrom}
 use Rattle.build_one.specs.declared.stop.Stop.{Stop}
 use Rattle.build_one.specs.declared.stop.Stop.TheVariants as stops
-use Rattle.build_one.specs.declared.totals.Totals.{Totals}
-use Rattle.build_one.specs.Objects.{Objects, NoneRose, reading, writing}
+use Rattle.pmtiles_file.specs.declared.totals.Totals.{Totals}
+use Rattle.tb_outside.specs.Spill.{Runs}
+use Rattle.build_one.specs.Objects.{Objects, NoneRose, reading, spilling, writing}
 use Rattle.build_one.specs.Due.{Due, due_in}
 use Rattle.build_one.specs.Answers.{IsDue, HasCause, Fits, BuildAnswers}
 
-abbrev Complete : Result Totals Stop → Due → Type 0
-Complete result due = Fits result due ⊎ (result ≡ Err stops.Memory)
+abbrev Complete : Option Runs → Result Totals Stop → Due → Type 0
+Complete runs result due = Fits runs result due ⊎ (result ≡ Err stops.Memory)
 
-at_due : (before after : Objects) (result : Result Totals Stop) (due : Due) → NoneRose before after → HasCause result before after → IsDue result due → Complete result due
+at_due : (before after : Objects) (result : Result Totals Stop) (due : Due) → NoneRose before after → HasCause result before after → IsDue before.spool.runs result due → Complete before.spool.runs result due
 at_due before after (Ok totals) due none cause is = inl is
 at_due before after (Err (stops.Profile spot why)) due none cause is = inl is
 at_due before after (Err (stops.Damage damage)) due none cause is = inl is
 at_due before after (Err stops.NotYet) due none cause is = inl is
 at_due before after (Err (stops.Source w)) due none cause is = absurd (none reading w cause.rose)
+at_due before after (Err (stops.Spill w)) due none cause is = absurd (none spilling w cause.rose)
 at_due before after (Err stops.Sink) due none cause is = absurd (none writing whom.Archive cause.rose)
 at_due before after (Err stops.Memory) due none cause is = inr refl
 
-if_told : (told : Option Due) (before after : Objects) (result : Result Totals Stop) → NoneRose before after → HasCause result before after → IfSome told (IsDue result) → IfSome told (Complete result)
+if_told : (told : Option Due) (before after : Objects) (result : Result Totals Stop) → NoneRose before after → HasCause result before after → IfSome told (IsDue before.spool.runs result) → IfSome told (Complete before.spool.runs result)
 if_told None before after result none cause is = tt
 if_told (Some due) before after result none cause is = at_due before after result due none cause is
 
-pub complete : (from : ProfileFrom) (before after : Objects) (result : Result Totals Stop) → BuildAnswers from before after result → NoneRose before after → IfSome (due_in from before) (Complete result)
+pub complete : (from : ProfileFrom) (before after : Objects) (result : Result Totals Stop) → BuildAnswers from before after result → NoneRose before after → IfSome (due_in from before) (Complete before.spool.runs result)
 complete from before after result answers none = if_told (due_in from before) before after result none answers.cause answers.told

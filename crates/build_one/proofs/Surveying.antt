@@ -1,5 +1,5 @@
 -- The walk over the blocks of an extract: what is held of those so far, and what is answered from there.
-use Rattle.std.proofs.Common.{◌≡◌, ℕ, ◌+◌, ◌<◌, ◌≤◌, Option, None, Some, IfSome, OnOk, Result, Ok, Err, List, [], ◌∷◌, ◌++◌, length, take, get_or, map, flat_map, slice_get, All, refl, sym, ap, subst, ◌∙◌, arith, append_assoc}
+use Rattle.std.proofs.Common.{◌≡◌, ℕ, ◌+◌, ◌<◌, ◌≤◌, Option, None, Some, IfSome, OnOk, Result, Ok, Err, List, [], ◌∷◌, ◌++◌, length, take, get_or, map, flat_map, slice_get, All, refl, sym, ap, subst, ◌∙◌, arith, inl, inr, append_assoc}
 use Rattle.std.specs.Option.{option_map}
 use Rattle.std.proofs.lemmas.List.{append-nil, take_more}
 use Rattle.tb_types.specs.declared.damage.Damage.{Damage}
@@ -7,12 +7,13 @@ use Rattle.tb_outside.specs.Source.{SourceSeen}
 use Rattle.pbf_blobs.specs.declared.block.BlockAt.{BlockAt}
 use Rattle.profile_rules.specs.declared.parts.Parts.{Parts}
 use Rattle.build_one.specs.declared.found.Found.{Found}
-use Rattle.build_one.specs.Contents.{Content, content_at, with_later, contents_at}
-use Rattle.build_one.specs.Found.{Holds, HasFound, Takes, joined, AreSound}
+use Rattle.build_one.specs.Contents.{Content, body_at, content_of, in_block, content_at, with_later, contents_at, IsBody}
+use Rattle.build_one.specs.Found.{Holds, HasFound, Takes, joined, IsReady}
 use Rattle.pbf_blobs.specs.declared.stop.ScanStop.{ScanStop}
 use Rattle.pbf_blobs.specs.declared.stop.ScanStop.TheVariants as stops
 use Rattle.build_one.specs.Survey.{Surveys}
-use Rattle.pbf_blobs.specs.Answers.{IsShort}
+use Rattle.pbf_blobs.specs.Answers.{IsNumbered, IsShort}
+use Rattle.build_one.proofs.Apart.{apart}
 use Rattle.build_one.specs.declared.stop.LoadStop.{LoadStop}
 use Rattle.std.proofs.lemmas.List.{take_all}
 use Rattle.std.proofs.lemmas.List.Elements.{All-get_or}
@@ -45,21 +46,31 @@ both_told None P Q R f h k = tt
 both_told (Some bytes) P Q R f h k = f bytes h k
 
 -- a call that answered
-abbrev done : Result (Unit {0}) LoadStop
+abbrev pub done : Result (Unit {0}) LoadStop
 done = Ok tt
+
+-- what the body of a block says, where it is that body or isn't read
+taken-as : (parts : Parts) (old new : Found) (extract : List ℕ) (b : BlockAt) (body : List ℕ) → IsBody extract b body → Takes parts old new done (in_block b.no (content_of b.no b.kind body)) → Takes parts old new done (content_at extract b)
+taken-as parts old new extract b body (inl other) h =
+    subst (λ c. Takes parts old new done (in_block b.no c)) (ap (λ k. content_of b.no k body) other ∙ sym (ap (λ k. content_of b.no k (body_at extract b)) other)) h
+taken-as parts old new extract b body (inr same) h = subst (λ bytes. Takes parts old new done (in_block b.no (content_of b.no b.kind bytes))) same h
+
+pub taken-block : (parts : Parts) (old new : Found) (told : Option (List ℕ)) (b : BlockAt) (body : List ℕ) → IfSome told (λ extract. IsBody extract b body) → Takes parts old new done (in_block b.no (content_of b.no b.kind body))
+    → IfSome told (λ extract. Takes parts old new done (content_at extract b))
+taken-block parts old new told b body is h = map_told told (λ extract. IsBody extract b body) (λ extract. Takes parts old new done (content_at extract b)) (λ extract k. taken-as parts old new extract b body k h) is
 
 -- What is held after the first blocks of an extract, if it is told.
 pub record Surveying (parts : Parts) (blocks : List BlockAt) (old now : SourceSeen) (i : ℕ) (found : Found) : Type 0 where
   pub bytes : now.bytes ≡ old.bytes
   pub faults : now.faults ≡ old.faults
   pub told : IfSome old.bytes (λ extract. Holds parts found (contents_at extract (take i blocks)))
-  pub ready : AreSound parts found.items.items
+  pub ready : IsReady parts found
 
-pub surveying-start : (parts : Parts) (blocks : List BlockAt) (s : SourceSeen) (found : Found) → Holds parts found (Ok []) → AreSound parts found.items.items → Surveying parts blocks s s 0 found
+pub surveying-start : (parts : Parts) (blocks : List BlockAt) (s : SourceSeen) (found : Found) → Holds parts found (Ok []) → IsReady parts found → Surveying parts blocks s s 0 found
 surveying-start parts blocks s found h ready = record { bytes = refl; faults = refl; told = any_told s.bytes (λ extract. Holds parts found (Ok [])) (λ extract. h); ready = ready }
 
 pub surveying-next : (parts : Parts) (blocks : List BlockAt) (old mid new : SourceSeen) (i : ℕ) (d : BlockAt) (before after : Found) → i < length blocks → Surveying parts blocks old mid i before
-    → IfSome mid.bytes (λ extract. Takes parts before after done (content_at extract (get_or blocks i d))) → new.bytes ≡ mid.bytes → new.faults ≡ mid.faults → AreSound parts after.items.items
+    → IfSome mid.bytes (λ extract. Takes parts before after done (content_at extract (get_or blocks i d))) → new.bytes ≡ mid.bytes → new.faults ≡ mid.faults → IsReady parts after
     → Surveying parts blocks old new (i + 1) after
 surveying-next parts blocks old mid new i d before after more s takes bytes faults ready = record {
   bytes = bytes ∙ s.bytes;
@@ -104,6 +115,9 @@ pub whole-damage : (parts : Parts) (blocks : List BlockAt) (old now : SourceSeen
 whole-damage parts blocks old now i found damage all s is =
     whole parts blocks old now i found (λ contents. contents ≡ Err damage) all s (λ contents h. held-damage parts found damage contents is h)
 
-pub whole-found : (parts : Parts) (blocks : List BlockAt) (old now : SourceSeen) (i : ℕ) (found : Found) → length blocks ≤ i → Surveying parts blocks old now i found → found.damage ≡ None
+pub whole-found : (parts : Parts) (blocks : List BlockAt) (old now : SourceSeen) (i : ℕ) (found : Found) → length blocks ≤ i → IsNumbered blocks → Surveying parts blocks old now i found → found.damage ≡ None
     → IfSome old.bytes (λ extract. Surveys parts (Ok found) (contents_at extract blocks))
-whole-found parts blocks old now i found all s is = whole parts blocks old now i found (HasFound parts found) all s (λ contents h. held-found parts found contents is h)
+whole-found parts blocks old now i found all numbered s is =
+    map_told old.bytes (λ extract. HasFound parts found (contents_at extract blocks)) (λ extract. Surveys parts (Ok found) (contents_at extract blocks))
+    (λ extract h. (h, apart parts extract blocks numbered))
+    (whole parts blocks old now i found (HasFound parts found) all s (λ contents h. held-found parts found contents is h))

@@ -1,6 +1,5 @@
 -- The worked cases, by computing.
 use Rattle.std.proofs.Common.{◌≡◌, None, Some, Ok, [], ◌∷◌, ◌++◌, length, codes, refl}
-use Rattle.serde_json.proofs.OnLiterals.{serde_json_on_literals}
 use Rattle.std.specs.Str.{is_utf8, chars}
 use lib.Utf8.{encode}
 use Rattle.tb_wire.specs.Varint.{varint, encoding}
@@ -18,10 +17,17 @@ use Rattle.int_mercator.specs.Cosine.{series, cosine_of}
 use Rattle.int_mercator.specs.Quarter.{secant_of, height_of, entry_of, quarter}
 use Rattle.int_mercator.specs.Places.{x_of, north_of, y_of, world_of, grid_of}
 use Rattle.build_one.specs.Contents.{header, contents_of}
-use Rattle.pmtiles_dirs.specs.Bounds.{whole_world}
-use Rattle.build_one.specs.Archive.{root_text, longs_text, int_text, place_text, bounds_text, header_end, header_text, archive_text}
-use Rattle.pmtiles_dirs.specs.Meta.{kind_text, layer_data, metadata_of, metadata_text}
-use Rattle.build_one.specs.Worked.{WorkedRows, header_frame, cafe_frame, compressed_header, cafe, cafe_contents, ints_of, key_metadata, cafe_tile, no_tile, damage_in}
+use Rattle.profile_rules.specs.OneRule.{one_rule_of, nodes_id}
+use Rattle.profile_rules.specs.Top.{usual_name}
+use Rattle.strip_clip.specs.Cuts.{cut_of}
+use Rattle.hilbert_ids.specs.Ids.{number_of}
+use Rattle.mvt_codec.specs.Groups.{layers_of}
+use Rattle.mvt_codec.specs.Tile.{feature_text, layer_text}
+use Rattle.mvt_codec.specs.Value.{number_text, value_text}
+use Rattle.tile_model.specs.Tiles.{tiles_between}
+use Rattle.build_one.specs.Map.{meta_of, tiles_of}
+use Rattle.build_one.proofs.WorkedArchives.{without_tile, with_cafe, of_shops}
+use Rattle.build_one.specs.Worked.{WorkedRows, header_frame, cafe_frame, compressed_header, cafe_contents, cafe_tiles, key_meta, damage_in}
 
 header_alone : contents_of header_frame ≡ Ok (header None ∷ [])
 unfolding contents_of frames_before frames_from block_at frame_at header_len_at blob_header_of raw_of header_of is_accepted message_at field_at value_at varint
@@ -47,33 +53,17 @@ compressed : contents_of compressed_header ≡ damage_in 0 reasons.Compressed
 unfolding contents_of frames_before frames_from block_at frame_at header_len_at blob_header_of raw_of message_at field_at value_at varint
 compressed = refl
 
-in_the_middle : ints_of cafe ≡ Some (9 ∷ 4096 ∷ 4096 ∷ [])
-unfolding world_of x_of y_of north_of quarter entry_of height_of secant_of cosine_of series grid_of
-in_the_middle = refl
+meta : meta_of (one_rule_of (codes "amenity")) None ≡ key_meta (codes "amenity")
+unfolding nodes_id usual_name
+meta = refl
 
-root : root_text (Some cafe_tile) ≡ 1 ∷ 0 ∷ 1 ∷ 48 ∷ 1 ∷ []
-unfolding root_text encoding
-root = refl
+cafe_map : tiles_of (one_rule_of (codes "amenity")) cafe_contents ≡ cafe_tiles
+unfolding nodes_id usual_name tiles_between number_of cut_of layers_of layer_text feature_text number_text value_text len_text encoding world_of x_of y_of north_of quarter entry_of height_of secant_of cosine_of series grid_of
+cafe_map = refl
 
-empty_root : root_text no_tile ≡ 0 ∷ []
-unfolding root_text encoding
-empty_root = refl
-
-metadata : key_metadata (codes "amenity") ≡ codes "{\"name\":\"map\",\"vector_layers\":[{\"fields\":{\"amenity\":\"String\"},\"id\":\"nodes\"}]}"
-unfolding metadata_text metadata_of layer_data kind_text serde_json_on_literals
-metadata = refl
-
-without_tile : length (archive_text (key_metadata (codes "amenity")) whole_world no_tile) ≡ 205
-unfolding archive_text header_text header_end bounds_text place_text int_text longs_text root_text encoding metadata_text metadata_of layer_data kind_text serde_json_on_literals
-without_tile = refl
-
-with_cafe : length (archive_text (key_metadata (codes "amenity")) whole_world (Some cafe_tile)) ≡ 257
-unfolding archive_text header_text header_end bounds_text place_text int_text longs_text root_text encoding metadata_text metadata_of layer_data kind_text serde_json_on_literals
-with_cafe = refl
-
-of_shops : length (archive_text (key_metadata (codes "shop")) whole_world no_tile) ≡ 202
-unfolding archive_text header_text header_end bounds_text place_text int_text longs_text root_text encoding metadata_text metadata_of layer_data kind_text serde_json_on_literals
-of_shops = refl
+no_shop : tiles_of (one_rule_of (codes "shop")) cafe_contents ≡ []
+unfolding nodes_id usual_name tiles_between number_of cut_of layers_of world_of x_of y_of north_of quarter entry_of height_of secant_of cosine_of series grid_of
+no_shop = refl
 
 pub worked_rows : WorkedRows
 worked_rows = record {
@@ -83,12 +73,10 @@ worked_rows = record {
   nothing = nothing;
   data_alone = data_alone;
   compressed = compressed;
-  middle = in_the_middle;
-  root = root;
-  empty_root = empty_root;
-  metadata = metadata;
+  meta = meta;
   without_tile = without_tile;
   with_cafe = with_cafe;
   of_shops = of_shops;
-  bounds = refl;
+  cafe_map = cafe_map;
+  no_shop = no_shop;
 }

@@ -6,7 +6,7 @@ use Rattle.build_one.specs.Contents.{Content, header, elements, unread}
 -- the box of a header
 abbrev pub boxes_in : Content → List (Option Bounds)
 boxes_in (header box) = box ∷ []
-boxes_in (elements block) = []
+boxes_in (elements number block) = []
 boxes_in unread = []
 
 -- the box of the first header, if that has a valid one

@@ -13,10 +13,10 @@ use Rattle.osm_elements.specs.Header.{header_of}
 use Rattle.osm_elements.specs.Block.{block_of}
 use Rattle.osm_elements.specs.declared.element.Block.{Block}
 
--- what a block holds: the box of a header, if it is valid; elements; or what isn't read
+-- what a block holds: the box of a header, if it is valid; elements, with the block's number; or what isn't read
 pub data Content : Type 0 where
   header : Option Bounds → Content
-  elements : Block → Content
+  elements : ℕ → Block → Content
   unread : Content
 
 -- what the body of a header frame says
@@ -27,10 +27,10 @@ header_in body = raw_of body >>= header_of
 abbrev pub block_in : List ℕ → Result Block Why
 block_in body = raw_of body >>= block_of
 
-abbrev pub content_of : BlockKind → List ℕ → Result Content Why
-content_of kinds.Header body = header_in body >>= λ box. Ok (header box)
-content_of kinds.Elements body = block_in body >>= λ block. Ok (elements block)
-content_of kinds.Other body = Ok unread
+abbrev pub content_of : ℕ → BlockKind → List ℕ → Result Content Why
+content_of number kinds.Header body = header_in body >>= λ box. Ok (header box)
+content_of number kinds.Elements body = block_in body >>= λ block. Ok (elements number block)
+content_of number kinds.Other body = Ok unread
 
 -- a reason is the damage of this block
 abbrev pub in_block : {A : Type 0} → ℕ → Result A Why → Result A Damage
@@ -43,7 +43,7 @@ body_at extract b = slice_range extract b.at (b.at + b.len)
 
 -- what a block of the extract holds, or its damage
 abbrev pub content_at : List ℕ → BlockAt → Result Content Damage
-content_at extract b = in_block b.no (content_of b.kind (body_at extract b))
+content_at extract b = in_block b.no (content_of b.no b.kind (body_at extract b))
 
 -- it is the body of a block that is read
 abbrev pub IsBody : List ℕ → BlockAt → List ℕ → Type 0

@@ -1,28 +1,28 @@
 -- What is due for a build: the archive that its profile and its extract give, or why there is none.
-use Rattle.std.specs.Prelude.{◌≡◌, ℕ, ◌^◌, ◌==◌, ◌&&◌, nat_le, Bool, if◌then◌else◌, Option, None, Some, option_map, option_and_then, Result, Ok, Err, List, [], length, unwrap_or}
+use Rattle.std.specs.Prelude.{ℕ, Option, None, Some, option_map, option_and_then, Result, Ok, Err, List, length, Bool, if◌then◌else◌}
 use Rattle.tb_types.specs.declared.damage.Damage.{Damage}
 use Rattle.profile_rules.specs.declared.parts.Parts.{Parts}
 use Rattle.profile_rules.specs.Faults.{Fault}
 use Rattle.profile_rules.specs.Fields.{has_points_only}
 use Rattle.profile_rules.specs.OneRule.{one_rule_of}
 use Rattle.profile_rules.specs.Profile.{profile_of}
+use Rattle.pmtiles_dirs.specs.declared.meta.Meta.{Meta}
+use Rattle.pmtiles_dirs.specs.Contents.{Tile, entries_of}
+use Rattle.pmtiles_dirs.specs.Contents as archives
+use Rattle.pmtiles_dirs.specs.Archive.{archive_text}
+use Rattle.pmtiles_file.specs.declared.totals.Totals.{Totals}
 use Rattle.build_one.specs.declared.from.ProfileFrom.{ProfileFrom}
 use Rattle.build_one.specs.declared.from.ProfileFrom.TheVariants as profiles
 use Rattle.build_one.specs.declared.stop.Stop.{Stop}
 use Rattle.build_one.specs.declared.stop.Stop.TheVariants as stops
-use Rattle.build_one.specs.declared.totals.Totals.{Totals}
 use Rattle.build_one.specs.Objects.{Objects, extract_in}
-use Rattle.pmtiles_dirs.specs.declared.bounds.MapBounds.{MapBounds}
 use Rattle.build_one.specs.Contents.{Content, contents_of}
-use Rattle.pmtiles_dirs.specs.Bounds.{bounds_of}
 use Rattle.build_one.specs.Bounds.{first_box}
-use Rattle.build_one.specs.Rows.{all_items}
-use Rattle.build_one.specs.Tile.{tile_of}
-use Rattle.build_one.specs.Metadata.{metadata_in}
-use Rattle.build_one.specs.Archive.{tile_count, archive_text}
+use Rattle.build_one.specs.Map.{tiles_of, has_giant, meta_of}
 
--- an archive: what it holds, and its bytes
+-- an archive: its tiles, what it holds, and its bytes
 pub record Built : Type 0 where
+  pub tiles : List Tile
   pub totals : Totals
   pub bytes : List ℕ
 
@@ -30,28 +30,28 @@ pub record Built : Type 0 where
 abbrev pub Due : Type 0
 Due = Result Built Stop
 
--- what an archive of at most one tile holds
-abbrev pub totals_of : Option (List ℕ) → List ℕ → Totals
-totals_of tile archive = record { tiles = tile_count tile; entries = tile_count tile; contents = tile_count tile; bytes = length archive }
+-- the archive of tiles, and what it holds
+abbrev pub totals_of : Meta → List Tile → Totals
+totals_of meta tiles = record { tiles = length tiles; entries = length (entries_of tiles); contents = length (archives.contents_of tiles); bytes = length (archive_text meta tiles) }
 
-abbrev pub built_of : Option (List ℕ) → List ℕ → Built
-built_of tile archive = record { totals = totals_of tile archive; bytes = archive }
+abbrev pub built_of : Meta → List Tile → Built
+built_of meta tiles = record { tiles = tiles; totals = totals_of meta tiles; bytes = archive_text meta tiles }
 
--- a tile has fewer bytes than 4 GiB
-abbrev pub due_of_tile : Parts → MapBounds → Option (List ℕ) → Due
-due_of_tile parts bounds tile = if nat_le (2 ^ 32) (length (unwrap_or tile [])) then Err stops.NotYet else Ok (built_of tile (archive_text (metadata_in parts) bounds tile))
+-- each tile has fewer bytes than 4 GiB
+abbrev pub due_of_tiles : Meta → List Tile → Due
+due_of_tiles meta tiles = if has_giant tiles then Err stops.NotYet else Ok (built_of meta tiles)
 
 abbrev pub due_of_contents : Parts → Result (List Content) Damage → Due
-due_of_contents parts (Ok contents) = due_of_tile parts (bounds_of (first_box contents)) (tile_of parts (all_items parts contents))
+due_of_contents parts (Ok contents) = due_of_tiles (meta_of parts (first_box contents)) (tiles_of parts contents)
 due_of_contents parts (Err damage) = Err (stops.Damage damage)
 
 -- what is due for an extract by a profile that is built
 abbrev pub due_of_extract : Parts → List ℕ → Due
 due_of_extract parts extract = due_of_contents parts (contents_of extract)
 
--- points at zoom 0 alone are built yet
+-- points alone are built yet
 abbrev pub is_built : Parts → Bool
-is_built parts = (parts.max == 0) && has_points_only parts
+is_built parts = has_points_only parts
 
 -- what is due by a profile and an extract, if it is told: a profile that is refused or not built yet needs none
 abbrev pub due_of_profile : Result Parts Fault → Option (List ℕ) → Option Due

@@ -1,23 +1,21 @@
--- What the code has gathered of the blocks so far is what they hold.
-use Rattle.std.specs.Prelude.{◌≡◌, ◌<◌, ℕ, length, Option, None, Some, IfSome, Result, Ok, Err, OnOk, ⊤, List, [], ◌∷◌, ◌++◌, flat_map, slice_get, All}
-use Rattle.std.specs.Option.{option_map}
+-- What the code has found of the blocks so far is what they hold.
+use Rattle.std.specs.Prelude.{◌≡◌, Option, None, Some, IfSome, Result, Ok, Err, OnOk, ⊤, List, [], ◌∷◌, ◌++◌, flat_map, slice_get}
+use Rattle.std.specs.List.Sorted.{IsPermutation}
 use Rattle.tb_types.specs.declared.damage.Damage.{Damage}
-use Rattle.tb_types.specs.Counts.{Rose}
-use Rattle.tb_outside.specs.Source.{SourceSeen}
-use Rattle.build_one.specs.declared.found.Found.{Found}
-use Rattle.build_one.specs.declared.stop.Stop.{Stop}
-use Rattle.build_one.specs.declared.stop.Stop.TheVariants as stops
-use Rattle.build_one.specs.Contents.{Content}
-use Rattle.pmtiles_dirs.specs.Bounds.{bounds_of}
-use Rattle.build_one.specs.Bounds.{boxes_in}
+use Rattle.tb_types.specs.declared.location.Bounds.{Bounds}
+use Rattle.osm_elements.specs.Header.{is_valid}
 use Rattle.profile_rules.specs.declared.parts.Parts.{Parts}
-use Rattle.build_one.specs.declared.item.Item.{Item}
-use Rattle.build_one.specs.Items.{IsReadyItem}
-use Rattle.build_one.specs.Rows.{all_items}
+use Rattle.pmtiles_dirs.specs.Bounds.{CanBeWritten}
+use Rattle.tile_model.specs.Tiles.{emitted_items}
+use Rattle.build_one.specs.declared.found.Found.{Found}
+use Rattle.build_one.specs.Contents.{Content}
+use Rattle.build_one.specs.Bounds.{boxes_in}
+use Rattle.build_one.specs.Map.{features_of}
+use Rattle.build_one.specs.Items.{AreSound}
 
--- the rows by a profile, and the bounds by the first header
+-- the items of all features by a profile, in any order, and what the first header says of its box
 abbrev pub HasContents : Parts → Found → List Content → Type 0
-HasContents parts f contents = (f.items.items ≡ all_items parts contents) × (f.bounds ≡ option_map bounds_of (slice_get (flat_map boxes_in contents) 0))
+HasContents parts f contents = IsPermutation (emitted_items (features_of parts contents)) f.items.items × (f.header_box ≡ slice_get (flat_map boxes_in contents) 0)
 
 -- these, or the damage
 abbrev pub Holds : Parts → Found → Result (List Content) Damage → Type 0
@@ -39,9 +37,11 @@ joined (Err damage) more = Err damage
 abbrev pub Takes : {E : Type 0} → Parts → Found → Found → Result ⊤ E → Result Content Damage → Type 0
 Takes parts old new result more = (so_far : Result (List Content) Damage) → Holds parts old so_far → OnOk result (Holds parts new (joined so_far more))
 
--- rows of layers that the profile has, whose whole numbers can be written
-abbrev pub IsSoundItem : Parts → Item → Type 0
-IsSoundItem parts item = (item.layer < length parts.layers) × IsReadyItem item
+-- the box that was found can be written
+abbrev pub IsReadyBox : Option (Option Bounds) → Type 0
+IsReadyBox found = IfSome found (λ box. IfSome box CanBeWritten)
 
-abbrev pub AreSound : Parts → List Item → Type 0
-AreSound parts items = All (IsSoundItem parts) items
+-- items and box are ready for tiles and an archive
+pub record IsReady (parts : Parts) (f : Found) : Type 0 where
+  pub items : AreSound parts f.items.items
+  pub box : IsReadyBox f.header_box

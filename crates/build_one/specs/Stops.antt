@@ -6,8 +6,12 @@ use Rattle.build_one.specs.declared.stop.Stop.{Stop}
 use Rattle.build_one.specs.declared.stop.Stop.TheVariants as stops
 use Rattle.build_one.specs.declared.stop.ProfileStop.{ProfileStop}
 use Rattle.build_one.specs.declared.stop.ProfileStop.TheVariants as profile_stops
-use Rattle.build_one.specs.declared.stop.MakeStop.{MakeStop}
-use Rattle.build_one.specs.declared.stop.MakeStop.TheVariants as make_stops
+use Rattle.build_one.specs.declared.stop.TileStop.{TileStop}
+use Rattle.build_one.specs.declared.stop.TileStop.TheVariants as tile_stops
+use Rattle.pbf_blobs.specs.declared.stop.ScanStop.{ScanStop}
+use Rattle.pbf_blobs.specs.declared.stop.ScanStop.TheVariants as scan_stops
+use Rattle.pmtiles_file.specs.declared.totals.FinishErr.{FinishErr}
+use Rattle.pmtiles_file.specs.declared.totals.FinishErr.TheVariants as finish_errors
 use Rattle.build_one.specs.Objects.{Role, reading, spilling, writing}
 
 -- why a build ended: by the contents of profile and extract, by the count of an object that rose, or since memory wants
@@ -20,6 +24,7 @@ abbrev pub cause_of : Stop → Cause
 cause_of (stops.Profile spot why) = contents
 cause_of (stops.Damage damage) = contents
 cause_of (stops.Source w) = count reading w
+cause_of (stops.Spill w) = count spilling w
 cause_of stops.Sink = count writing whom.Archive
 cause_of stops.NotYet = contents
 cause_of stops.Memory = memory
@@ -30,15 +35,7 @@ IfContents contents P = P
 IfContents (count role w) P = Unit {0}
 IfContents memory P = Unit {0}
 
--- the archive's sink failed
-abbrev pub is_written : Cause → Bool
-is_written contents = false
-is_written (count reading w) = false
-is_written (count spilling w) = false
-is_written (count writing w) = true
-is_written memory = false
-
--- the reader isn't touched: the profile is refused, or its source failed
+-- the readers aren't touched: the profile is refused, or its source failed
 abbrev pub is_early : Stop → Bool
 is_early (stops.Profile spot why) = true
 is_early (stops.Source whom.Profile) = true
@@ -47,9 +44,20 @@ is_early (stops.Source whom.Spool) = false
 is_early (stops.Source whom.Archive) = false
 is_early (stops.Source whom.Console) = false
 is_early (stops.Damage damage) = false
+is_early (stops.Spill w) = false
 is_early stops.Sink = false
 is_early stops.NotYet = false
 is_early stops.Memory = false
+
+-- no tile was made yet: the profile or the extract is refused, or its source failed
+abbrev pub is_before_tiles : Stop → Bool
+is_before_tiles (stops.Profile spot why) = true
+is_before_tiles (stops.Damage damage) = true
+is_before_tiles (stops.Source w) = true
+is_before_tiles (stops.Spill w) = false
+is_before_tiles stops.Sink = false
+is_before_tiles stops.NotYet = false
+is_before_tiles stops.Memory = false
 
 -- what the stops of the stages are for the build
 abbrev pub stop_of_profile : ProfileStop → Stop
@@ -57,8 +65,17 @@ stop_of_profile (profile_stops.Bad spot why) = stops.Profile spot why
 stop_of_profile profile_stops.Failed = stops.Source whom.Profile
 stop_of_profile profile_stops.Memory = stops.Memory
 
-abbrev pub stop_of_make : MakeStop → Stop
-stop_of_make (make_stops.Damage damage) = stops.Damage damage
-stop_of_make make_stops.TooLarge = stops.NotYet
-stop_of_make make_stops.Failed = stops.Source (whom.Lane 0)
-stop_of_make make_stops.Memory = stops.Memory
+abbrev pub stop_of_survey : ScanStop → Stop
+stop_of_survey (scan_stops.Damage damage) = stops.Damage damage
+stop_of_survey scan_stops.Failed = stops.Source (whom.Lane 0)
+stop_of_survey scan_stops.Memory = stops.Memory
+
+abbrev pub stop_of_tiles : TileStop → Stop
+stop_of_tiles tile_stops.TooLarge = stops.NotYet
+stop_of_tiles tile_stops.Failed = stops.Spill whom.Spool
+stop_of_tiles tile_stops.Memory = stops.Memory
+
+abbrev pub stop_of_archive : FinishErr → Stop
+stop_of_archive finish_errors.Memory = stops.Memory
+stop_of_archive finish_errors.Spill = stops.Spill whom.Spool
+stop_of_archive finish_errors.Sink = stops.Sink

@@ -4,16 +4,14 @@ use Rattle.tb_types.specs.declared.damage.Why.{Why}
 use Rattle.tb_types.specs.declared.damage.Why.TheVariants as reasons
 use Rattle.tb_types.specs.declared.damage.Damage.{Damage}
 use Rattle.tb_types.specs.declared.location.LatLon.{LatLon}
-use Rattle.tb_types.specs.declared.location.Bounds.{Bounds}
 use Rattle.osm_elements.specs.declared.element.NodeEl.{NodeEl}
-use Rattle.pmtiles_dirs.specs.declared.bounds.MapBounds.{MapBounds}
 use Rattle.build_one.specs.Contents.{Content, header, elements, contents_of}
-use Rattle.pmtiles_dirs.specs.Bounds.{whole_world, bounds_of}
 use Rattle.tb_types.specs.declared.attribute.FieldKind.TheVariants as field_kinds
-use Rattle.pmtiles_dirs.specs.declared.meta.MetaLayer.{MetaLayer}
-use Rattle.pmtiles_dirs.specs.Meta.{metadata_text}
-use Rattle.build_one.specs.Rows.{point_of, point_ints}
-use Rattle.build_one.specs.Archive.{root_text, archive_text}
+use Rattle.pmtiles_dirs.specs.declared.meta.Meta.{Meta}
+use Rattle.pmtiles_dirs.specs.Archive.{archive_text}
+use Rattle.pmtiles_dirs.specs.Contents.{Tile}
+use Rattle.profile_rules.specs.OneRule.{one_rule_of}
+use Rattle.build_one.specs.Map.{meta_of, tiles_of}
 
 -- a header frame whose block has no fields
 abbrev pub header_frame : List ℕ
@@ -37,18 +35,11 @@ abbrev pub cafe : NodeEl
 cafe = cafe_at (pos 0) (pos 0)
 
 abbrev pub cafe_contents : List Content
-cafe_contents = header None ∷ elements (record { nodes = cafe ∷ []; ways = []; relations = [] }) ∷ []
+cafe_contents = header None ∷ elements 1 (record { nodes = cafe ∷ []; ways = []; relations = [] }) ∷ []
 
--- the integers of a node's point, if it has a location
-abbrev pub ints_of : NodeEl → Option (List ℕ)
-ints_of n = option_map point_ints (point_of n)
-
--- what is told of a map of a key
-abbrev pub key_layer : List ℕ → List MetaLayer
-key_layer key = record { id = codes "nodes"; fields = (key, field_kinds.Text) ∷ [] } ∷ []
-
-abbrev pub key_metadata : List ℕ → List ℕ
-key_metadata key = metadata_text (codes "map") (key_layer key)
+-- what is told of a map of a key, without a box
+abbrev pub key_meta : List ℕ → Meta
+key_meta key = record { name = codes "map"; layers = record { id = codes "nodes"; fields = (key, field_kinds.Text) ∷ [] } ∷ []; min = 0; max = 0; bounds = None }
 
 -- the tile of the cafe: one layer with one point in the middle
 abbrev pub cafe_tile : List ℕ
@@ -56,9 +47,8 @@ cafe_tile =
     26 ∷ 46 ∷ 10 ∷ 5 ∷ codes "nodes" ++ 18 ∷ 15 ∷ 8 ∷ 11 ∷ 18 ∷ 2 ∷ 0 ∷ 0 ∷ 24 ∷ 1 ∷ 34 ∷ 5 ∷ 9 ∷ 128 ∷ 32 ∷ 128 ∷ 32 ∷ 26 ∷ 7 ∷ codes "amenity"
     ++ 34 ∷ 6 ∷ 10 ∷ 4 ∷ codes "cafe" ++ 40 ∷ 128 ∷ 32 ∷ 120 ∷ 2 ∷ []
 
--- an archive without a tile
-abbrev pub no_tile : Option (List ℕ)
-no_tile = None
+abbrev pub cafe_tiles : List Tile
+cafe_tiles = record { id = 0; bytes = cafe_tile } ∷ []
 
 abbrev pub damage_in : ℕ → Why → Result (List Content) Damage
 damage_in block why = Err (record { block = block; why = why })
@@ -70,12 +60,11 @@ pub record WorkedRows : Type 0 where
   pub nothing : contents_of [] ≡ damage_in 0 reasons.NoHeader
   pub data_alone : contents_of cafe_frame ≡ damage_in 0 reasons.NoHeader
   pub compressed : contents_of compressed_header ≡ damage_in 0 reasons.Compressed
-  pub middle : ints_of cafe ≡ Some (9 ∷ 4096 ∷ 4096 ∷ [])
-  pub root : root_text (Some cafe_tile) ≡ 1 ∷ 0 ∷ 1 ∷ 48 ∷ 1 ∷ []
-  pub empty_root : root_text no_tile ≡ 0 ∷ []
-  pub metadata : key_metadata (codes "amenity") ≡ codes "{\"name\":\"map\",\"vector_layers\":[{\"fields\":{\"amenity\":\"String\"},\"id\":\"nodes\"}]}"
-  pub without_tile : length (archive_text (key_metadata (codes "amenity")) whole_world no_tile) ≡ 205
-  pub with_cafe : length (archive_text (key_metadata (codes "amenity")) whole_world (Some cafe_tile)) ≡ 257
-  pub of_shops : length (archive_text (key_metadata (codes "shop")) whole_world no_tile) ≡ 202
-  -- 99 nanodegrees are 0 and -101 are -2, in 10^-7 degrees
-  pub bounds : bounds_of (Some (record { left = neg_ℤ (pos 101); right = pos 99; top = pos 200; bottom = neg_ℤ (pos 1) })) ≡ record { west = neg_ℤ (pos 2); south = neg_ℤ (pos 1); east = pos 0; north = pos 2 }
+  -- the metadata, and the lengths of archives without a tile and with one
+  pub meta : meta_of (one_rule_of (codes "amenity")) None ≡ key_meta (codes "amenity")
+  pub without_tile : length (archive_text (key_meta (codes "amenity")) []) ≡ 205
+  pub with_cafe : length (archive_text (key_meta (codes "amenity")) cafe_tiles) ≡ 257
+  pub of_shops : length (archive_text (key_meta (codes "shop")) []) ≡ 202
+  -- the cafe's tile, and what another key makes of it
+  pub cafe_map : tiles_of (one_rule_of (codes "amenity")) cafe_contents ≡ cafe_tiles
+  pub no_shop : tiles_of (one_rule_of (codes "shop")) cafe_contents ≡ []

@@ -1,44 +1,44 @@
-ghost use Rattle.std.specs.Prelude.{◌≡◌, ℕ, ◌++◌, Ok, None, Some, IfSome, List, [], flat_map, OnOk, true};
+ghost use Rattle.std.specs.Prelude.{◌≡◌, ℕ, ◌++◌, Ok, None, Some, IfSome, [], flat_map, OnOk, true};
 ghost use Rattle.std.specs.Option.{option_or};
 ghost use Rattle.tb_types.specs.declared.damage.Why.{Why};
 ghost use Rattle.pbf_blobs.specs.declared.block.BlockKind.TheVariants as kinds;
 ghost use Rattle.osm_elements.specs.declared.fault.BlockErr.TheVariants as faults;
 ghost use Rattle.osm_elements.specs.Header.{is_valid};
-ghost use Rattle.build_one.specs.Contents.{content_of, in_block};
-ghost use Rattle.pmtiles_dirs.specs.Bounds.{bounds_of};
 ghost use Rattle.profile_rules.specs.declared.parts.Parts.{Parts};
 ghost use Rattle.profile_rules.specs.Sound.{IsSound};
-ghost use Rattle.build_one.specs.Found.{Holds, Takes, AreSound};
-ghost use Rattle.build_one.specs.Rows.{items_of};
+ghost use Rattle.tile_model.specs.Points.{block_points};
+ghost use Rattle.tile_model.specs.Tiles.{emitted_items};
+ghost use Rattle.build_one.specs.Contents.{content_of, in_block};
+ghost use Rattle.build_one.specs.Found.{Holds, Takes, IsReady};
+ghost use Rattle.build_one.specs.Items.{Gains};
 
 use crate::body::{block_in, header_in};
-use crate::item::Item;
 use crate::node::put_items;
 use int_mercator::Table;
+use mvt_codec::RunItem;
 use osm_elements::{Block, BlockErr};
 use pbf_blobs::BlockKind;
-use pmtiles_dirs::{MapBounds, bounds_of};
 use profile_rules::Profile;
 use std::alloc::Global;
 use tb_types::{Bounds, Damage, Memory};
 
-/// What was found so far of an extract: the rows of its nodes, the bounds of the map by the first
-/// header, and the damage of the first damaged block. Once there is damage, the rest doesn't count.
+/// What was found so far of an extract: the items of its nodes, the box of its first header, which may have none, and the
+/// damage of the first damaged block. Once there is damage, the rest doesn't count.
 #[derive(Drop)]
 pub struct Found {
-    pub items: Vec<Item>,
-    pub bounds: Option<MapBounds>,
+    pub items: Vec<RunItem>,
+    pub header_box: Option<Option<Bounds>>,
     pub damage: Option<Damage>,
 }
 
 impl Found {
     pub fn new(alloc: Global) -> Found
         ensures holds { (parts : Parts) → Holds parts result (Ok []) }
-        ensures ready { (parts : Parts) → AreSound parts result.items.items }
+        ensures ready { (parts : Parts) → IsReady parts result }
     {
         Found {
             items: Vec::new(alloc),
-            bounds: None,
+            header_box: None,
             damage: None,
         }
     }
@@ -54,8 +54,8 @@ impl Found {
         body: &[u8],
     ) -> Result<(), Memory>
         requires sound { IsSound profile.now }
-        ensures takes { Takes profile.now self.old self.new result (in_block no (content_of kind body.now)) }
-        ensures ready { AreSound profile.now self.old.items.items → OnOk result (AreSound profile.now self.new.items.items) }
+        ensures takes { Takes profile.now self.old self.new result (in_block no (content_of no kind body.now)) }
+        ensures ready { IsReady profile.now self.old → OnOk result (IsReady profile.now self.new) }
     {
         if self.damage.is_some() {
             return Ok(());
@@ -69,8 +69,8 @@ impl Found {
 
     // Takes up the body of a header frame.
     fn take_header(&mut self, alloc: Global, no: u32, body: &[u8]) -> Result<(), Memory>
-        ensures takes { (parts : Parts) → self.old.damage ≡ None → Takes parts self.old self.new result (in_block no (content_of kinds.Header body.now)) }
-        ensures rows { OnOk result (self.new.items ≡ self.old.items) }
+        ensures takes { (parts : Parts) → self.old.damage ≡ None → Takes parts self.old self.new result (in_block no (content_of no kinds.Header body.now)) }
+        ensures ready { (parts : Parts) → IsReady parts self.old → OnOk result (IsReady parts self.new) }
     {
         match header_in(alloc, body) {
             Ok(found) => {
@@ -83,11 +83,10 @@ impl Found {
 
     // Notes the box of a header, if that is the first.
     fn note_box(&mut self, found: Option<Bounds>)
-        requires { IfSome found (λ b. is_valid b ≡ true) }
-        ensures { self.new ≡ record self.old { bounds = option_or self.old.bounds (Some (bounds_of found)) } }
+        ensures { self.new ≡ record self.old { header_box = option_or self.old.header_box (Some found) } }
     {
-        if self.bounds.is_none() {
-            self.bounds = Some(bounds_of(found));
+        if self.header_box.is_none() {
+            self.header_box = Some(found);
         }
     }
 
@@ -101,11 +100,11 @@ impl Found {
         body: &[u8],
     ) -> Result<(), Memory>
         requires sound { IsSound profile.now }
-        ensures takes { self.old.damage ≡ None → Takes profile.now self.old self.new result (in_block no (content_of kinds.Elements body.now)) }
-        ensures ready { AreSound profile.now self.old.items.items → OnOk result (AreSound profile.now self.new.items.items) }
+        ensures takes { self.old.damage ≡ None → Takes profile.now self.old self.new result (in_block no (content_of no kinds.Elements body.now)) }
+        ensures ready { IsReady profile.now self.old → OnOk result (IsReady profile.now self.new) }
     {
         match block_in(alloc, body) {
-            Ok(block) => put_nodes(&mut self.items, alloc, profile, table, &block),
+            Ok(block) => put_nodes(&mut self.items, alloc, profile, table, no, &block),
             Err(e) => self.refuse(no, e),
         }
     }
@@ -124,18 +123,20 @@ impl Found {
     }
 }
 
-// Adds the rows of the nodes of a block.
+// Adds the items of the nodes of a block.
 fn put_nodes(
-    items: &mut Vec<Item>,
+    items: &mut Vec<RunItem>,
     alloc: Global,
     profile: &Profile,
     table: &Table,
+    no: u32,
     block: &Block,
 ) -> Result<(), Memory>
-    ensures { OnOk result (items.new.items ≡ items.old.items ++ flat_map (items_of profile.now) block.now.nodes) }
+    requires sound { IsSound profile.now }
+    ensures { OnOk result (Gains profile.now (emitted_items (block_points profile.now (no, block.now))) items.old.items items.new.items) }
 {
     for node in block.nodes.as_slice() {
-        put_items(items, alloc, profile, table, node)?;
+        put_items(items, alloc, profile, table, no, node)?;
     }
     Ok(())
 }

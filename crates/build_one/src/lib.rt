@@ -1,29 +1,27 @@
 //! A build on one lane: takes a profile and the extract that a lane's reader has, gives its archive to a sink.
 //!
 //! Read `engine` (the passes by their names), then along the way of the bytes: `profile`, `survey` and `found` (what the blocks
-//! of the extract hold), `body` (one block), `node` and `item` (its rows), `layers` and `tile`, `metadata` and `archive`. What a build promises by its answer stands in `specs/Answers`, what is due in `specs/Due`, and what that rests on
-//! in the files that it names.
+//! of the extract hold), `body` (one block), `node` (its items), `map` (what the archive says of the map) and `tiles`. What a
+//! build promises by its answer stands in `specs/Answers`, what is due in `specs/Due`, and what that rests on in the files that
+//! it names.
 #![tactic(auto)]
 
-mod archive;
+mod attributes;
 mod body;
 mod engine;
 mod found;
 mod from;
-mod item;
-mod layers;
-mod metadata;
+mod map;
 mod node;
 mod numbers;
 mod profile;
 mod stop;
 mod survey;
-mod tile;
-mod totals;
+mod tiles;
 mod worked;
 
 pub use engine::{build, builds_are_complete};
 pub use from::ProfileFrom;
+pub use pmtiles_file::Totals;
 pub use stop::Stop;
-pub use totals::Totals;
 pub use worked::worked_rows;

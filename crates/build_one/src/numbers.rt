@@ -7,6 +7,3 @@ pub const MOVE_TO_ONE: u32 = 9;
 
 /// A tile of a directory's entry has fewer bytes than this, 4 GiB.
 pub const TILE_LIMIT: u64 = 1 << 32;
-
-/// The length of an archive's header.
-pub const HEADER_LEN: u64 = 127;

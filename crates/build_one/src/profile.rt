@@ -1,7 +1,6 @@
 ghost use Rattle.std.specs.Prelude.{◌≡◌, ◌<◌, IfSome, length};
 ghost use Rattle.profile_rules.specs.Faults.{Gives};
 ghost use Rattle.profile_rules.specs.Profile.{profile_of};
-ghost use Rattle.profile_rules.specs.Sound.{IsSound};
 ghost use Rattle.tb_types.specs.Counts.{Counted};
 ghost use Rattle.build_one.specs.Due.{is_built, parts_from};
 ghost use Rattle.build_one.specs.Profiles.{IsKeyed, IsAlone, ReadsProfile, LoadsText, profile_failed};
@@ -10,7 +9,7 @@ use crate::from::ProfileFrom;
 use crate::stop::ProfileStop;
 use profile_rules::{
     LONGEST_PROFILE, Part, Profile, ProfileErr, ProfileWhy, Spot, has_points_only, one_rule,
-    read_profile, zooms,
+    read_profile,
 };
 use std::alloc::Global;
 use tb_outside::Source;
@@ -77,10 +76,9 @@ fn load_text<P: Source>(alloc: Global, source: &mut P) -> Result<Vec<u8>, Profil
     }
 }
 
-/// Whether a profile asks for points at zoom 0 alone, which are built yet.
+/// Whether a profile asks for points alone, which are built yet.
 pub fn is_built(profile: &Profile) -> bool
-    ensures built { result ≡ is_built profile.now }
-    ensures sound { IsSound profile.now }
+    ensures { result ≡ is_built profile.now }
 {
-    zooms(profile).1 == 0 && has_points_only(profile)
+    has_points_only(profile)
 }

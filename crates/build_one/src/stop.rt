@@ -1,6 +1,8 @@
 ghost use Rattle.std.specs.Prelude.{◌≡◌};
-ghost use Rattle.build_one.specs.Stops.{stop_of_profile, stop_of_make};
+ghost use Rattle.build_one.specs.Stops.{stop_of_archive, stop_of_profile, stop_of_survey, stop_of_tiles};
 
+use pbf_blobs::ScanStop;
+use pmtiles_file::FinishErr;
 use profile_rules::{ProfileWhy, Spot};
 use std::alloc::{AllocError, AllocFailed};
 use tb_types::{Damage, Memory as NoMemory, Whom};
@@ -17,9 +19,11 @@ pub enum Stop {
     Damage(Damage),
     /// A source failed: its count of faults rose.
     Source(Whom),
+    /// A spill or the spool failed: its count of faults rose.
+    Spill(Whom),
     /// The archive's sink failed: its count of faults rose.
     Sink,
-    /// The profile asks for more than points at zoom 0, or a tile has 4 GiB or more, which isn't built yet.
+    /// The profile asks for more than points, or a tile has 4 GiB or more, which isn't built yet.
     NotYet,
     /// Want of memory.
     Memory,
@@ -45,14 +49,12 @@ pub enum LoadStop {
     Memory,
 }
 
-/// Why an archive isn't made.
+/// Why the tiles of a map aren't written.
 #[derive(Clone, Copy, Debug, PartialEq, Eq)]
-pub enum MakeStop {
-    /// The extract is damaged.
-    Damage(Damage),
-    /// The tile has 4 GiB or more.
+pub enum TileStop {
+    /// A tile has 4 GiB or more.
     TooLarge,
-    /// The reader failed.
+    /// The spool failed.
     Failed,
     /// Want of memory.
     Memory,
@@ -70,15 +72,38 @@ impl From<ProfileStop> for Stop {
     }
 }
 
-impl From<MakeStop> for Stop {
-    ghost from_gives = { λ e stop. stop ≡ stop_of_make e };
+impl From<ScanStop> for Stop {
+    ghost from_gives = { λ e stop. stop ≡ stop_of_survey e };
 
-    fn from(e: MakeStop) -> Stop {
+    fn from(e: ScanStop) -> Stop {
         match e {
-            MakeStop::Damage(damage) => Stop::Damage(damage),
-            MakeStop::TooLarge => Stop::NotYet,
-            MakeStop::Failed => Stop::Source(READER),
-            MakeStop::Memory => Stop::Memory,
+            ScanStop::Damage(damage) => Stop::Damage(damage),
+            ScanStop::Failed => Stop::Source(READER),
+            ScanStop::Memory => Stop::Memory,
+        }
+    }
+}
+
+impl From<TileStop> for Stop {
+    ghost from_gives = { λ e stop. stop ≡ stop_of_tiles e };
+
+    fn from(e: TileStop) -> Stop {
+        match e {
+            TileStop::TooLarge => Stop::NotYet,
+            TileStop::Failed => Stop::Spill(Whom::Spool),
+            TileStop::Memory => Stop::Memory,
+        }
+    }
+}
+
+impl From<FinishErr> for Stop {
+    ghost from_gives = { λ e stop. stop ≡ stop_of_archive e };
+
+    fn from(e: FinishErr) -> Stop {
+        match e {
+            FinishErr::Memory => Stop::Memory,
+            FinishErr::Spill => Stop::Spill(Whom::Spool),
+            FinishErr::Sink => Stop::Sink,
         }
     }
 }
@@ -123,12 +148,12 @@ impl From<AllocError> for LoadStop {
     }
 }
 
-impl From<NoMemory> for MakeStop {
-    ghost use Rattle.build_one.specs.declared.stop.MakeStop.TheVariants as stops;
+impl From<NoMemory> for TileStop {
+    ghost use Rattle.build_one.specs.declared.stop.TileStop.TheVariants as stops;
 
     ghost from_gives = { λ _ e. e ≡ stops.Memory };
 
-    fn from(_e: NoMemory) -> MakeStop {
-        MakeStop::Memory
+    fn from(_e: NoMemory) -> TileStop {
+        TileStop::Memory
     }
 }

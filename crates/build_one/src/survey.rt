@@ -1,9 +1,9 @@
 ghost use Rattle.std.specs.Prelude.{◌≡◌, ◌+◌, ◌≤◌, All, IfOk, IfSome, OnOk, length};
 ghost use Rattle.tb_types.specs.Counts.{Counted};
-ghost use Rattle.pbf_blobs.specs.Answers.{IsShort};
+ghost use Rattle.pbf_blobs.specs.Answers.{IsNumbered, IsShort};
 ghost use Rattle.build_one.specs.Contents.{content_at, contents_at, contents_of, IsBody};
 ghost use Rattle.profile_rules.specs.Sound.{IsSound};
-ghost use Rattle.build_one.specs.Found.{Takes, AreSound};
+ghost use Rattle.build_one.specs.Found.{Takes, IsReady};
 ghost use Rattle.build_one.specs.Survey.{Surveys, survey_failed, load_failed};
 
 use crate::found::Found;
@@ -13,6 +13,7 @@ use pbf_blobs::{BlockAt, BlockKind, ScanStop, scan};
 use profile_rules::Profile;
 use std::alloc::Global;
 use tb_outside::Source;
+use tb_types::Memory;
 
 /// What the blocks of an extract hold, as far as a build needs it: its frames are scanned, and then each block is loaded,
 /// once. `Damage` where the extract is damaged, with the first fault of its frames, or else the first reason of the least
@@ -21,17 +22,20 @@ use tb_outside::Source;
 pub fn survey<R: Source>(
     alloc: Global,
     profile: &Profile,
-    table: &Table,
     reader: &mut R,
 ) -> Result<Found, ScanStop>
     requires sound { IsSound profile.now }
     ensures told { IfSome (R.seen reader.old).bytes (λ extract. Surveys profile.now result (contents_of extract)) }
     ensures counts { Counted (survey_failed result) (R.seen reader.old).faults (R.seen reader.new).faults }
     ensures bytes { (R.seen reader.new).bytes ≡ (R.seen reader.old).bytes }
-    ensures ready { IfOk result (λ found. AreSound profile.now found.items.items) }
+    ensures ready { IfOk result (λ found. IsReady profile.now found) }
 {
+    let table = match Table::new(alloc) {
+        Ok(table) => table,
+        Err(Memory) => return Err(ScanStop::Memory),
+    };
     match scan(alloc, reader) {
-        Ok(index) => take_blocks(alloc, profile, table, reader, index.blocks.as_slice()),
+        Ok(index) => take_blocks(alloc, profile, &table, reader, index.blocks.as_slice()),
         Err(stop) => Err(stop),
     }
 }
@@ -46,10 +50,11 @@ fn take_blocks<R: Source>(
 ) -> Result<Found, ScanStop>
     requires sound { IsSound profile.now }
     requires within { IfSome (R.seen reader.old).bytes (λ extract. All (IsShort (length extract)) blocks.now) }
+    requires numbered { IsNumbered blocks.now }
     ensures told { IfSome (R.seen reader.old).bytes (λ extract. Surveys profile.now result (contents_at extract blocks.now)) }
     ensures counts { Counted (survey_failed result) (R.seen reader.old).faults (R.seen reader.new).faults }
     ensures bytes { (R.seen reader.new).bytes ≡ (R.seen reader.old).bytes }
-    ensures ready { IfOk result (λ found. AreSound profile.now found.items.items) }
+    ensures ready { IfOk result (λ found. IsReady profile.now found) }
 {
     let mut found = Found::new(alloc);
     for block in blocks {
@@ -79,7 +84,7 @@ fn take_block<R: Source>(
     ensures told { IfSome (R.seen reader.old).bytes (λ extract. Takes profile.now found.old found.new result (content_at extract block)) }
     ensures counts { Counted (load_failed result) (R.seen reader.old).faults (R.seen reader.new).faults }
     ensures bytes { (R.seen reader.new).bytes ≡ (R.seen reader.old).bytes }
-    ensures ready { AreSound profile.now found.old.items.items → OnOk result (AreSound profile.now found.new.items.items) }
+    ensures ready { IsReady profile.now found.old → OnOk result (IsReady profile.now found.new) }
 {
     let body = match load_body(alloc, reader, block) {
         Ok(body) => body,

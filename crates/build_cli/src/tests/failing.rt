@@ -49,7 +49,7 @@ fn sink_faults_are_told(rt: HostRuntime) -> Result<(), Fail> {
     let alloc = rt.alloc();
     let whole = nodes(alloc, "amenity", CAFE, &NONE)?.archive;
     // The calls that fail, the room of the archive's sink, the status, how much of the archive is there, the console.
-    let cases: [(Faults<'_>, u8, usize, &[u8]); 4] = [
+    let cases: [(Faults<'_>, u8, usize, &[u8]); 3] = [
         (
             Faults {
                 archive: &[0],
@@ -58,15 +58,6 @@ fn sink_faults_are_told(rt: HostRuntime) -> Result<(), Fail> {
             9,
             0,
             b"sink: archive\n",
-        ),
-        (
-            Faults {
-                archive: &[1],
-                ..NONE
-            },
-            0,
-            257,
-            SUCCESS,
         ),
         (
             Faults {
@@ -107,5 +98,30 @@ fn sink_faults_are_told(rt: HostRuntime) -> Result<(), Fail> {
         ran.status == 4 && ran.console.bytes().is_empty(),
         "a refusal stands"
     );
+    Ok(())
+}
+
+/// The calls of the spool over one tile: a run is begun, written and ended, and then read.
+const SPOOL_CALLS: u64 = 4;
+
+#[test]
+fn spool_faults_are_told(rt: HostRuntime) -> Result<(), Fail> {
+    let alloc = rt.alloc();
+    let whole = nodes(alloc, "amenity", CAFE, &NONE)?.archive;
+    for call in 0..SPOOL_CALLS + 1 {
+        let faults = Faults {
+            spool: &[call],
+            ..NONE
+        };
+        let ran = nodes(alloc, "amenity", CAFE, &faults)?;
+        let fails = call < SPOOL_CALLS;
+        let line = if fails { b"spill: spool\n".as_slice() } else { SUCCESS };
+        assert!(rt; ran.status == if fails { 8 } else { 0 }, "call {call}");
+        assert!(rt; ran.console.bytes() == line, "call {call}");
+        // Nothing is appended before all tiles stand in the spool, and then a prefix.
+        let len = ran.archive.bytes().len();
+        assert!(rt; call + 1 >= SPOOL_CALLS || len == 0, "call {call}");
+        assert!(rt; whole.bytes().starts_with(ran.archive.bytes()), "call {call}");
+    }
     Ok(())
 }

@@ -5,7 +5,7 @@ use std::test::Fail;
 fn profiles_are_judged(rt: HostRuntime) -> Result<(), Fail> {
     let alloc = rt.alloc();
     // A profile, the status and the line.
-    let cases: [(&[u8], u8, &[u8]); 8] = [
+    let cases: [(&[u8], u8, &[u8]); 7] = [
         (b"", 3, b"profile: top: shape\n"),
         (b"=", 3, b"profile: top: toml\n"),
         (
@@ -27,11 +27,6 @@ fn profiles_are_judged(rt: HostRuntime) -> Result<(), Fail> {
             b"format = 1\nmaxzoom = 0\n[[layer]]\nid = \"a\"\n[[rule]]\nlayer = \"a\"\nkind = \"point\"\nwhen = [\"!\"]\n",
             3,
             b"profile: rule 0: condition\n",
-        ),
-        (
-            b"format = 1\nmaxzoom = 1\n[[layer]]\nid = \"a\"\n",
-            13,
-            b"not built yet\n",
         ),
         (
             b"format = 1\nmaxzoom = 0\n[[layer]]\nid = \"a\"\n[[rule]]\nlayer = \"a\"\nkind = \"line\"\n",
