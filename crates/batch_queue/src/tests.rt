@@ -1,4 +1,4 @@
-ghost use Rattle.std.specs.Prelude.{◌≡◌};
+ghost use Rattle.std.specs.Prelude.{◌≡◌, ◌<◌, ◌≤◌};
 ghost use Rattle.batch_queue.specs.Facts.{IsPassHere, IsWhole};
 
 use super::*;
@@ -99,11 +99,13 @@ fn exchange<L: Purse + Send + Sync, T: Threads + Wait + Sync>(
     rt: &T,
     alloc: Global,
     blank: Blank,
+    capacity: u32,
 ) -> Result<(u32, u32, u64), Memory>
-    requires { (blank.name ≡ L.name) × (blank.parts ≡ L.parts) × (L.parts ≡ L.budget) × (L.budget ≡ 1000000) }
+    requires capacity { (0 < capacity) × (capacity ≤ 1024) }
+    requires ledger { (blank.name ≡ L.name) × (blank.parts ≡ L.parts) × (L.parts ≡ L.budget) × (L.budget ≡ 1000000) }
 {
     let book = SharedBook::new(Book::<L>::new(blank, BUDGET));
-    let (queue, mut pass) = BatchQueue::<L>::new(alloc, 4)?;
+    let (queue, mut pass) = BatchQueue::<L>::new(alloc, capacity)?;
     let other = queue.split(&mut pass);
     let shared = &queue;
     let lent = &book;
@@ -137,8 +139,23 @@ fn what_is_pushed_comes_out_and_the_whole_budget_is_free(rt: HostRuntime) -> Res
         &rt,
         rt.alloc(),
         Blank::new(BUDGET),
+        4,
     )?;
     assert!(rt; pushed >= 1);
+    assert_eq!(rt; popped, pushed);
+    assert_eq!(rt; free, BUDGET);
+    Ok(())
+}
+
+#[test]
+fn a_queue_has_up_to_1024_places(rt: HostRuntime) -> Result<(), Fail> {
+    let (pushed, popped, free) = exchange::<Brand, HostRuntime>(
+        &rt,
+        rt.alloc(),
+        Blank::new(BUDGET),
+        1024,
+    )?;
+    assert!(rt; pushed >= 15);
     assert_eq!(rt; popped, pushed);
     assert_eq!(rt; free, BUDGET);
     Ok(())

@@ -5,6 +5,7 @@ use super::*;
 use std::alloc::{AllocError, Global};
 use std::test::*;
 use std::thread::join;
+use tb_types::Memory;
 
 /// What a seat draws in so many claims.
 fn draw(
@@ -64,5 +65,20 @@ fn two_threads_draw_each_number_once(rt: HostRuntime) -> Result<(), Fail> {
     mark(&mut times, b.as_slice());
     assert_eq!(rt; a.len().saturating_add(b.len()), 1000);
     assert!(rt; times.iter().all(|count| *count == 1));
+    Ok(())
+}
+
+/// What the greatest desk gives first, and how many steps that took.
+fn first_of_all(alloc: Global) -> Result<(Option<u32>, Option<u32>, u64), Memory> {
+    let (desk, mut seat) = Desk::new(alloc, 1 << 24)?;
+    let first = desk.claim(&mut seat);
+    let second = desk.claim(&mut seat);
+    Ok((first, second, desk.close(&mut seat)))
+}
+
+#[test]
+fn a_desk_has_up_to_two_to_the_24_numbers(rt: HostRuntime) -> Result<(), Fail> {
+    let got = first_of_all(rt.alloc())?;
+    assert!(rt; got == (Some(0), Some(1), 2), "{got:?}");
     Ok(())
 }

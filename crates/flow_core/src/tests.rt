@@ -84,6 +84,7 @@ fn every_schedule_takes_as_many_steps(rt: HostRuntime) {
         (&[7][..], 1, 1, 7, 9),
         (&[1, 2, 3, 4, 5, 6, 7, 8][..], 4, 2, 11, 68),
         (&[9, 9, 0, 9, 9, 9][..], 5, 1024, 9, 53),
+        (&[5, 5, 5][..], 64, 2, 10, 88),
     ];
     for (needs, lanes, queue, part, steps) in rows {
         for seed in 0..4 {

@@ -1,4 +1,4 @@
-ghost use Rattle.std.specs.Prelude.{◌≡◌};
+ghost use Rattle.std.specs.Prelude.{◌≡◌, ◌*◌, ◌^◌, ◌≤◌};
 
 use super::*;
 use std::marker::Brand;
@@ -36,21 +36,35 @@ fn tried_shared<L: Purse, T: Wait>(rt: &T, book: &SharedBook<L>, n: u64) -> Resu
     Ok(amount)
 }
 
-/// The same of a book that threads share.
-fn asked_shared<L: Purse, T: Wait>(rt: &T, blank: Blank) -> Result<Answers, Busy>
-    requires { (blank.name ≡ L.name) × (blank.parts ≡ L.parts) × (L.parts ≡ L.budget) × (L.budget ≡ 10) }
+/// The same of a book that threads share, each amount so many times.
+fn asked_shared<L: Purse, T: Wait>(rt: &T, blank: Blank, unit: u64) -> Result<Answers, Busy>
+    requires ledger { (blank.name ≡ L.name) × (blank.parts ≡ L.parts) × (L.parts ≡ L.budget) }
+    requires budget { (unit ≤ 2 ^ 40) × (L.budget ≡ 10 * unit) }
 {
-    let book = SharedBook::new(Book::<L>::new(blank, 10));
-    let six = book.book(rt, 6)?;
-    let five = tried_shared(rt, &book, 5);
-    let four = tried_shared(rt, &book, 4);
+    let book = SharedBook::new(Book::<L>::new(blank, 10 * unit));
+    let six = book.book(rt, 6 * unit)?;
+    let five = tried_shared(rt, &book, 5 * unit);
+    let four = tried_shared(rt, &book, 4 * unit);
     book.give(rt, six);
-    Ok((five, four, tried_shared(rt, &book, 10)))
+    Ok((five, four, tried_shared(rt, &book, 10 * unit)))
 }
 
 #[test]
 fn a_book_of_ten(rt: HostRuntime) {
     let wanted = Ok((Err(Busy { booked: 6 }), Ok(4), Ok(10)));
     assert!(rt; asked::<Brand>(Blank::new(10)) == wanted);
-    assert!(rt; asked_shared::<Brand, HostRuntime>(&rt, Blank::new(10)) == wanted);
+    assert!(rt; asked_shared::<Brand, HostRuntime>(&rt, Blank::new(10), 1) == wanted);
+}
+
+#[test]
+fn a_shared_book_of_ten_trillions(rt: HostRuntime) {
+    let wanted = Ok((
+        Err(Busy {
+            booked: 6_000_000_000_000,
+        }),
+        Ok(4_000_000_000_000),
+        Ok(10_000_000_000_000),
+    ));
+    let blank = Blank::new(10_000_000_000_000);
+    assert!(rt; asked_shared::<Brand, HostRuntime>(&rt, blank, 1_000_000_000_000) == wanted);
 }

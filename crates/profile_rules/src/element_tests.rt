@@ -1,120 +1,75 @@
 //! What the rules of profiles make of elements.
 
-use crate::{
-    Form, Profile, Spec, fields, has_points_only, layers, name, one_rule, read_profile, specs,
-    zooms,
-};
+use crate::{Form, Profile, Spec, read_profile, specs};
 use std::alloc::Global;
 use std::test::Fail;
-use tb_types::{AttrValue, FieldKind, Kind, Memory, Seq, Tags, Text};
+use tb_types::{Attr, AttrValue, Kind, Memory, Seq, Tags, Text};
 
 /// Roads and land at zoom 0, with the defaults of all that isn't named.
-const ROADS: &str =
+pub const ROADS: &str =
     "format = 1\nmaxzoom = 0\n[[layer]]\nid = \"roads\"\n[[layer]]\nid = \"land\"\n[[rule]]\nlayer = \"roads\"\nkind = \"line\"\nwhen = [\"highway\"]\n[[rule]]\nlayer = \"land\"\nkind = \"area\"\nwhen = [\"landuse\"]\nattributes = [{ key = \"landuse\" }]\n";
 
 /// Points, lines and areas at the zooms from 10 to 12.
-const TRIAL: &str =
+pub const TRIAL: &str =
     "format = 1\nname = \"trial\"\nminzoom = 10\nmaxzoom = 12\n[[layer]]\nid = \"points\"\n[[layer]]\nid = \"lines\"\n[[layer]]\nid = \"areas\"\n[[rule]]\nlayer = \"points\"\nkind = \"point\"\nwhen = [\"amenity\"]\nattributes = [{ key = \"amenity\" }]\n[[rule]]\nlayer = \"lines\"\nkind = \"line\"\nwhen = [\"highway\"]\nattributes = [{ key = \"highway\" }, { key = \"name\" }]\n[[rule]]\nlayer = \"areas\"\nkind = \"area\"\nwhen = [\"building\"]\nattributes = [{ name = \"class\", value = \"building\" }]\n[[rule]]\nlayer = \"areas\"\nkind = \"area\"\nwhen = [\"landuse\"]\nattributes = [{ key = \"landuse\" }]\n";
 
 /// Each form of a condition and of an attribute.
-const FORMS: &str =
+pub const FORMS: &str =
     "format = 1\n[[layer]]\nid = \"a\"\nbuffer = 256\ntolerance = 0\n[[rule]]\nlayer = \"a\"\nkind = \"point\"\nwhen = [\"!k\"]\norder = -5\n[[rule]]\nlayer = \"a\"\nkind = \"point\"\nwhen = [\"k=v|w=x\"]\nminzoom = 3\n[[rule]]\nlayer = \"a\"\nkind = \"point\"\nwhen = [\"k!=v|w\"]\nmaxzoom = 4\n[[rule]]\nlayer = \"a\"\nkind = \"line\"\nattributes = [{ key = \"k\", name = \"z\" }, { key = \"k\", name = \"n\", form = \"int\" }, { key = \"k\", form = \"bool\" }, { name = \"c\", value = -7 }, { name = \"\\u00e9\", value = false }, { name = \"e\", value = \"\" }, { key = \"\", name = \"x\" }]\n[[rule]]\nlayer = \"a\"\nkind = \"line\"\nwhen = [\"n\"]\nattributes = [{ key = \"n\", form = \"bool\" }, { name = \"c\", value = 1 }]\n";
 
-// The profile of a text that is one.
-fn read(alloc: Global, text: &str) -> Result<Profile, Memory> {
+/// The profile of a text that is one.
+pub fn read(alloc: Global, text: &str) -> Result<Profile, Memory> {
     match read_profile(alloc, text.as_bytes()) {
         Ok(profile) => Ok(profile),
         Err(_) => Err(Memory),
     }
 }
 
-fn text(alloc: Global, text: &str) -> Result<Text, Memory> {
-    Ok(Text::from_string(String::from_str(alloc, text)?))
+/// A value that an attribute is to have.
+#[derive(Drop)]
+pub enum Value<'a> {
+    Text(&'a str),
+    Whole(i128),
+    Truth(bool),
 }
 
-fn tags(alloc: Global, pairs: &[(&str, &str)]) -> Result<Tags, Memory> {
-    let mut tags = Tags {
-        pairs: Seq::new(alloc),
-    };
-    for (key, value) in pairs {
-        tags.pairs.push((text(alloc, *key)?, text(alloc, *value)?))?;
-    }
-    Ok(tags)
-}
-
-fn push_number(alloc: Global, out: &mut Text, n: i128) -> Result<(), Memory> {
-    let number = format!(in alloc; "{n} ")?;
-    out.push_str(number.as_str())
-}
-
-fn push_value(alloc: Global, out: &mut Text, value: &AttrValue) -> Result<(), Memory> {
-    match value {
-        AttrValue::Text(text) => out.push_str(text.as_str()),
-        AttrValue::Whole(n) => push_number(alloc, out, *n),
-        AttrValue::Truth(true) => out.push_str("true"),
-        AttrValue::Truth(false) => out.push_str("false"),
-        AttrValue::Bits32(_) => out.push_str("32 bits"),
-        AttrValue::Bits64(_) => out.push_str("64 bits"),
-    }
-}
-
-fn push_spec(alloc: Global, out: &mut Text, spec: &Spec) -> Result<(), Memory> {
-    let form = match spec.form {
-        Form::Point => "point ",
-        Form::Line => "line ",
-        Form::Area => "area ",
-    };
-    out.push_str(form)?;
-    push_number(alloc, out, i128::from(spec.rule))?;
-    push_number(alloc, out, i128::from(spec.layer))?;
-    push_number(alloc, out, i128::from(spec.order))?;
-    push_number(alloc, out, i128::from(spec.min))?;
-    push_number(alloc, out, i128::from(spec.max))?;
-    for attr in spec.attributes.as_slice() {
-        out.push_str(attr.name.as_str())?;
-        out.push_str("=")?;
-        push_value(alloc, out, &attr.value)?;
-        out.push_str(",")?;
-    }
-    out.push_str(";")
-}
-
-// The specs of an element as a text: of each its form, rule, layer, order, zooms and attributes.
-fn shown(
-    alloc: Global,
-    profile: &Profile,
-    pairs: &[(&str, &str)],
-    kind: Kind,
-) -> Result<Text, Memory> {
-    let tags = tags(alloc, pairs)?;
-    let mut out = Text::new(alloc);
-    for spec in specs(alloc, profile, &tags, kind)?.as_slice() {
-        push_spec(alloc, &mut out, spec)?;
-    }
-    Ok(out)
-}
+/// A spec as it is to be: its form, rule, layer, order, zooms, and attributes.
+pub type Want<'a> = (Form, u16, u8, i16, (u8, u8), &'a [(&'a str, Value<'a>)]);
 
 /// An element by its kind and tags, and what a profile makes of it.
-type Row = (Kind, &'static [(&'static str, &'static str)], &'static str);
+type Row = (
+    Kind,
+    &'static [(&'static str, &'static str)],
+    &'static [Want<'static>],
+);
+
+const LAND: Want<'static> = (
+    Form::Area,
+    1,
+    1,
+    0,
+    (0, 0),
+    &[("landuse", Value::Text("y"))],
+);
 
 const ROADS_ROWS: [Row; 6] = [
     (
         Kind::Way,
         &[("highway", "x"), ("landuse", "y")],
-        "line 0 0 0 0 0 ;area 1 1 0 0 0 landuse=y,;",
+        &[(Form::Line, 0, 0, 0, (0, 0), &[]), LAND],
     ),
-    (Kind::Node, &[("highway", "x")], ""),
-    (Kind::Relation, &[("landuse", "y")], ""),
-    (Kind::Relation, &[("type", "route"), ("landuse", "y")], ""),
+    (Kind::Node, &[("highway", "x")], &[]),
+    (Kind::Relation, &[("landuse", "y")], &[]),
+    (Kind::Relation, &[("type", "route"), ("landuse", "y")], &[]),
     (
         Kind::Relation,
         &[("type", "boundary"), ("landuse", "y")],
-        "area 1 1 0 0 0 landuse=y,;",
+        &[LAND],
     ),
     (
         Kind::Relation,
         &[("landuse", "y"), ("type", "multipolygon")],
-        "area 1 1 0 0 0 landuse=y,;",
+        &[LAND],
     ),
 ];
 
@@ -122,74 +77,276 @@ const TRIAL_ROWS: [Row; 4] = [
     (
         Kind::Node,
         &[("amenity", "cafe")],
-        "point 0 0 0 10 12 amenity=cafe,;",
+        &[(
+            Form::Point,
+            0,
+            0,
+            0,
+            (10, 12),
+            &[("amenity", Value::Text("cafe"))],
+        )],
     ),
     (
         Kind::Way,
         &[("highway", "residential"), ("name", "Way 1")],
-        "line 1 1 0 10 12 highway=residential,name=Way 1,;",
+        &[(
+            Form::Line,
+            1,
+            1,
+            0,
+            (10, 12),
+            &[
+                ("highway", Value::Text("residential")),
+                ("name", Value::Text("Way 1")),
+            ],
+        )],
     ),
     (
         Kind::Way,
         &[("building", "yes")],
-        "area 2 2 0 10 12 class=building,;",
+        &[(
+            Form::Area,
+            2,
+            2,
+            0,
+            (10, 12),
+            &[("class", Value::Text("building"))],
+        )],
     ),
-    (Kind::Way, &[("name", "x")], ""),
+    (Kind::Way, &[("name", "x")], &[]),
 ];
 
 const FORMS_ROWS: [Row; 12] = [
-    (Kind::Node, &[], "point 0 0 -5 0 14 ;point 2 0 0 0 4 ;"),
+    (
+        Kind::Node,
+        &[],
+        &[
+            (Form::Point, 0, 0, -5, (0, 14), &[]),
+            (Form::Point, 2, 0, 0, (0, 4), &[]),
+        ],
+    ),
     (
         Kind::Node,
         &[("k", "v")],
-        "point 1 0 0 3 14 ;point 2 0 0 0 4 ;",
+        &[
+            (Form::Point, 1, 0, 0, (3, 14), &[]),
+            (Form::Point, 2, 0, 0, (0, 4), &[]),
+        ],
     ),
     (
         Kind::Node,
         &[("k", "w=x")],
-        "point 1 0 0 3 14 ;point 2 0 0 0 4 ;",
+        &[
+            (Form::Point, 1, 0, 0, (3, 14), &[]),
+            (Form::Point, 2, 0, 0, (0, 4), &[]),
+        ],
     ),
-    (Kind::Node, &[("k", "v|w")], ""),
-    (Kind::Node, &[("k", "w"), ("k", "v")], "point 2 0 0 0 4 ;"),
-    (Kind::Way, &[], "line 3 0 0 0 14 c=-7 ,é=false,e=,;"),
+    (Kind::Node, &[("k", "v|w")], &[]),
+    (
+        Kind::Node,
+        &[("k", "w"), ("k", "v")],
+        &[(Form::Point, 2, 0, 0, (0, 4), &[])],
+    ),
+    (
+        Kind::Way,
+        &[],
+        &[(
+            Form::Line,
+            3,
+            0,
+            0,
+            (0, 14),
+            &[
+                ("c", Value::Whole(-7)),
+                ("é", Value::Truth(false)),
+                ("e", Value::Text("")),
+            ],
+        )],
+    ),
     (
         Kind::Way,
         &[("k", "-012"), ("", "y")],
-        "line 3 0 0 0 14 z=-012,n=-12 ,c=-7 ,é=false,e=,x=y,;",
+        &[(
+            Form::Line,
+            3,
+            0,
+            0,
+            (0, 14),
+            &[
+                ("z", Value::Text("-012")),
+                ("n", Value::Whole(-12)),
+                ("c", Value::Whole(-7)),
+                ("é", Value::Truth(false)),
+                ("e", Value::Text("")),
+                ("x", Value::Text("y")),
+            ],
+        )],
     ),
     (
         Kind::Way,
         &[("k", "-0")],
-        "line 3 0 0 0 14 z=-0,n=0 ,c=-7 ,é=false,e=,;",
+        &[(
+            Form::Line,
+            3,
+            0,
+            0,
+            (0, 14),
+            &[
+                ("z", Value::Text("-0")),
+                ("n", Value::Whole(0)),
+                ("c", Value::Whole(-7)),
+                ("é", Value::Truth(false)),
+                ("e", Value::Text("")),
+            ],
+        )],
     ),
     (
         Kind::Way,
         &[("k", "999999999999999999")],
-        "line 3 0 0 0 14 z=999999999999999999,n=999999999999999999 ,c=-7 ,é=false,e=,;",
+        &[(
+            Form::Line,
+            3,
+            0,
+            0,
+            (0, 14),
+            &[
+                ("z", Value::Text("999999999999999999")),
+                ("n", Value::Whole(999_999_999_999_999_999)),
+                ("c", Value::Whole(-7)),
+                ("é", Value::Truth(false)),
+                ("e", Value::Text("")),
+            ],
+        )],
     ),
     (
         Kind::Way,
         &[("k", "0000000000000000001")],
-        "line 3 0 0 0 14 z=0000000000000000001,c=-7 ,é=false,e=,;",
+        &[(
+            Form::Line,
+            3,
+            0,
+            0,
+            (0, 14),
+            &[
+                ("z", Value::Text("0000000000000000001")),
+                ("c", Value::Whole(-7)),
+                ("é", Value::Truth(false)),
+                ("e", Value::Text("")),
+            ],
+        )],
     ),
     (
         Kind::Way,
         &[("k", "1")],
-        "line 3 0 0 0 14 z=1,n=1 ,k=true,c=-7 ,é=false,e=,;",
+        &[(
+            Form::Line,
+            3,
+            0,
+            0,
+            (0, 14),
+            &[
+                ("z", Value::Text("1")),
+                ("n", Value::Whole(1)),
+                ("k", Value::Truth(true)),
+                ("c", Value::Whole(-7)),
+                ("é", Value::Truth(false)),
+                ("e", Value::Text("")),
+            ],
+        )],
     ),
     (
         Kind::Way,
         &[("n", "no")],
-        "line 3 0 0 0 14 c=-7 ,é=false,e=,;line 4 0 0 0 14 n=false,c=1 ,;",
+        &[
+            (
+                Form::Line,
+                3,
+                0,
+                0,
+                (0, 14),
+                &[
+                    ("c", Value::Whole(-7)),
+                    ("é", Value::Truth(false)),
+                    ("e", Value::Text("")),
+                ],
+            ),
+            (
+                Form::Line,
+                4,
+                0,
+                0,
+                (0, 14),
+                &[("n", Value::Truth(false)), ("c", Value::Whole(1))],
+            ),
+        ],
     ),
 ];
 
+fn is_value(got: &AttrValue, want: &Value<'_>) -> bool {
+    match (got, want) {
+        (AttrValue::Text(got), Value::Text(want)) => got.as_str() == *want,
+        (AttrValue::Whole(got), Value::Whole(want)) => *got == *want,
+        (AttrValue::Truth(got), Value::Truth(want)) => *got == *want,
+        _ => false,
+    }
+}
+
+fn are_attributes(got: &[Attr], want: &[(&str, Value<'_>)]) -> bool {
+    let mut alike = got.len() == want.len();
+    for (attr, (name, value)) in got.iter().zip(want.iter()) {
+        alike = alike && attr.name.as_str() == *name && is_value(&attr.value, value);
+    }
+    alike
+}
+
+fn is_spec(got: &Spec, want: &Want<'_>) -> bool {
+    let (form, rule, layer, order, zooms, attributes) = want;
+    got.form == *form
+        && (got.rule, got.layer, got.order) == (*rule, *layer, *order)
+        && (got.min, got.max) == *zooms
+        && are_attributes(got.attributes.as_slice(), *attributes)
+}
+
+fn are_specs(got: &[Spec], want: &[Want<'_>]) -> bool {
+    let mut alike = got.len() == want.len();
+    for (spec, want) in got.iter().zip(want.iter()) {
+        alike = alike && is_spec(spec, want);
+    }
+    alike
+}
+
+fn tag(alloc: Global, key: &str, value: &str) -> Result<(Text, Text), Memory> {
+    let key = Text::copy_of(alloc, key)?;
+    let value = Text::copy_of(alloc, value)?;
+    Ok((key, value))
+}
+
+fn tags(alloc: Global, pairs: &[(&str, &str)]) -> Result<Tags, Memory> {
+    let mut tags = Seq::new(alloc);
+    for (key, value) in pairs {
+        tags.push(tag(alloc, *key, *value)?)?;
+    }
+    Ok(Tags { pairs: tags })
+}
+
+/// Whether a profile makes this of an element.
+pub fn makes(
+    alloc: Global,
+    profile: &Profile,
+    kind: Kind,
+    pairs: &[(&str, &str)],
+    want: &[Want<'_>],
+) -> Result<bool, Memory> {
+    let tags = tags(alloc, pairs)?;
+    let specs = specs(alloc, profile, &tags, kind)?;
+    Ok(are_specs(specs.as_slice(), want))
+}
+
 // The number of the first row of which the profile makes something else.
-fn first_wrong(alloc: Global, profile: &Profile, rows: &[Row]) -> Result<Option<usize>, Memory> {
-    for i in 0..rows.len() {
-        let (kind, pairs, want) = rows[i];
-        let got = shown(alloc, profile, pairs, kind)?;
-        if got.as_str() != want {
+fn first_wrong(alloc: Global, text: &str, rows: &[Row]) -> Result<Option<usize>, Memory> {
+    let profile = read(alloc, text)?;
+    for (i, (kind, pairs, want)) in rows.iter().enumerate() {
+        if !makes(alloc, &profile, *kind, *pairs, *want)? {
             return Ok(Some(i));
         }
     }
@@ -197,103 +354,41 @@ fn first_wrong(alloc: Global, profile: &Profile, rows: &[Row]) -> Result<Option<
 }
 
 #[test]
-fn roads_and_land_have_their_specs(rt: HostRuntime) -> Result<(), Fail> {
-    let profile = read(rt.alloc(), ROADS)?;
-    let wrong = first_wrong(rt.alloc(), &profile, &ROADS_ROWS)?;
-    assert!(rt; wrong.is_none(), "{wrong:?}");
-    Ok(())
-}
-
-#[test]
-fn points_lines_and_areas_have_their_specs(rt: HostRuntime) -> Result<(), Fail> {
-    let profile = read(rt.alloc(), TRIAL)?;
-    let wrong = first_wrong(rt.alloc(), &profile, &TRIAL_ROWS)?;
-    assert!(rt; wrong.is_none(), "{wrong:?}");
-    Ok(())
-}
-
-#[test]
-fn conditions_and_attributes_have_their_forms(rt: HostRuntime) -> Result<(), Fail> {
-    let profile = read(rt.alloc(), FORMS)?;
-    let wrong = first_wrong(rt.alloc(), &profile, &FORMS_ROWS)?;
-    assert!(rt; wrong.is_none(), "{wrong:?}");
-    Ok(())
-}
-
-// What is told of a profile: its name, its zooms, and of each layer its id, buffer, tolerance and fields.
-fn told(alloc: Global, profile: &Profile) -> Result<Text, Memory> {
-    let mut out = text(alloc, name(profile))?;
-    let (first, last) = zooms(profile);
-    let separator = if has_points_only(profile) {
-        " points "
-    } else {
-        " "
-    };
-    out.push_str(separator)?;
-    push_number(alloc, &mut out, i128::from(first))?;
-    push_number(alloc, &mut out, i128::from(last))?;
-    let layers = layers(profile);
-    for i in 0..layers.len() {
-        out.push_str(layers[i].id.as_str())?;
-        out.push_str(" ")?;
-        push_number(alloc, &mut out, i128::from(layers[i].buffer))?;
-        push_number(alloc, &mut out, i128::from(layers[i].tolerance))?;
-        for field in fields(alloc, profile, i as u8)?.as_slice() {
-            push_field(&mut out, field)?;
-        }
-        out.push_str(";")?;
-    }
-    Ok(out)
-}
-
-fn push_field(out: &mut Text, field: &(Text, FieldKind)) -> Result<(), Memory> {
-    out.push_str(field.0.as_str())?;
-    match field.1 {
-        FieldKind::Text => out.push_str(" text,"),
-        FieldKind::Number => out.push_str(" number,"),
-        FieldKind::Boolean => out.push_str(" boolean,"),
-    }
-}
-
-#[test]
-fn profiles_are_told(rt: HostRuntime) -> Result<(), Fail> {
-    let rows = [
-        (ROADS, "map 0 0 roads 64 1 ;land 64 1 landuse text,;"),
-        (
-            TRIAL,
-            "trial 10 12 points 64 1 amenity text,;lines 64 1 highway text,name text,;areas 64 1 class text,landuse text,;",
-        ),
-        (
-            FORMS,
-            "map 0 14 a 256 0 c number,e text,k boolean,n text,x text,z text,é boolean,;",
-        ),
+fn elements_have_their_specs(rt: HostRuntime) -> Result<(), Fail> {
+    let profiles: [(&str, &[Row]); 3] = [
+        (ROADS, &ROADS_ROWS),
+        (TRIAL, &TRIAL_ROWS),
+        (FORMS, &FORMS_ROWS),
     ];
-    for (profile, want) in rows {
-        let profile = read(rt.alloc(), profile)?;
-        let got = told(rt.alloc(), &profile)?;
-        assert!(rt; got.as_str() == want, "{got:?}");
+    for (text, rows) in profiles {
+        let wrong = first_wrong(rt.alloc(), text, rows)?;
+        assert!(rt; wrong.is_none(), "row {wrong:?} of {text}");
     }
     Ok(())
 }
 
-// What is told of the profile of a key, and what it makes of a node with it.
-fn told_of_key(alloc: Global, key: &str) -> Result<Text, Memory> {
-    if key.is_empty() {
-        return Ok(Text::new(alloc));
+// Whether an element has one spec, whose first attribute is this text, and three constants.
+fn has_text(specs: &[Spec], text: &str) -> bool {
+    let [spec] = specs else {
+        return false;
+    };
+    match spec.attributes.as_slice() {
+        [attr, _, _, _] => is_value(&attr.value, &Value::Text(text)),
+        _ => false,
     }
-    let profile = one_rule(alloc, key)?;
-    let mut out = told(alloc, &profile)?;
-    let specs = shown(alloc, &profile, &[(key, "v")], Kind::Node)?;
-    out.push_str(specs.as_str())?;
-    Ok(out)
+}
+
+// Whether a value of 70,000 bytes is the text of an attribute, and no number or truth.
+fn keeps_a_long_value(alloc: Global) -> Result<bool, Memory> {
+    let profile = read(alloc, FORMS)?;
+    let long = "7".repeat(alloc, 70_000)?;
+    let tags = tags(alloc, &[("k", long.as_str())])?;
+    let specs = specs(alloc, &profile, &tags, Kind::Way)?;
+    Ok(has_text(specs.as_slice(), long.as_str()))
 }
 
 #[test]
-fn a_key_has_a_profile(rt: HostRuntime) -> Result<(), Fail> {
-    let got = told_of_key(rt.alloc(), "k")?;
-    assert!(rt;
-        got.as_str() == "map points 0 0 nodes 0 0 k text,;point 0 0 0 0 0 k=v,;",
-        "{got:?}"
-    );
+fn a_long_value_stays(rt: HostRuntime) -> Result<(), Fail> {
+    assert!(rt; keeps_a_long_value(rt.alloc())?);
     Ok(())
 }

@@ -1,9 +1,8 @@
 //! Why profiles are refused, as a table.
 
 use crate::{Part, ProfileErr, ProfileWhy, Spot, read_profile};
-use std::alloc::Global;
+use std::alloc::{AllocError, Global};
 use std::test::Fail;
-use tb_types::{Memory, Text};
 
 const NODES: &str = "format = 1\n[[layer]]\nid = \"a\"\n";
 
@@ -12,7 +11,7 @@ type Row = (&'static str, Part, u32, ProfileWhy);
 
 /// A profile for each reason of each part, and the reasons beside one another. Each text goes behind `NODES`, where the
 /// spot isn't that of the top, or the first line has no format.
-const REFUSED: [Row; 52] = [
+const REFUSED: [Row; 53] = [
     // the top table
     ("format = ", Part::Top, 0, ProfileWhy::Toml),
     ("format = 1\nformat = 1", Part::Top, 0, ProfileWhy::Toml),
@@ -223,6 +222,12 @@ const REFUSED: [Row; 52] = [
         0,
         ProfileWhy::Attribute,
     ),
+    (
+        "[[rule]]\nlayer = \"a\"\nkind = \"line\"\nattributes = [{ name = \"k\", value = 0.5 }]",
+        Part::Rule,
+        0,
+        ProfileWhy::Attribute,
+    ),
     // each reason before the next, whichever stands first, and an earlier rule
     (
         "[[rule]]\nkind = \"ring\"\nid = 1",
@@ -268,16 +273,6 @@ const REFUSED: [Row; 52] = [
     ),
 ];
 
-// The text of a row.
-fn text_of(alloc: Global, row: &str, part: Part) -> Result<Text, Memory> {
-    let mut text = Text::new(alloc);
-    if part != Part::Top {
-        text.push_str(NODES)?;
-    }
-    text.push_str(row)?;
-    Ok(text)
-}
-
 /// Why a text is refused, or `None` where it is read.
 pub fn fault_of(alloc: Global, text: &[u8]) -> Option<ProfileErr> {
     match read_profile(alloc, text) {
@@ -294,12 +289,29 @@ pub fn bad(part: Part, no: u32, why: ProfileWhy) -> Option<ProfileErr> {
     })
 }
 
+/// Whether the text of these pieces is refused so, or read.
+pub fn is_answered(
+    alloc: Global,
+    pieces: &[&str],
+    want: Option<ProfileErr>,
+) -> Result<bool, AllocError> {
+    let text = pieces.join(alloc, "")?;
+    Ok(fault_of(alloc, text.as_bytes()) == want)
+}
+
+// What stands before the text of a row.
+fn before(part: Part) -> &'static str {
+    match part {
+        Part::Top => "",
+        _ => NODES,
+    }
+}
+
 // The number of the first row that is answered otherwise.
-fn first_wrong(alloc: Global, rows: &[Row]) -> Result<Option<usize>, Memory> {
+fn first_wrong(alloc: Global, rows: &[Row]) -> Result<Option<usize>, AllocError> {
     for i in 0..rows.len() {
         let (row, part, no, why) = rows[i];
-        let text = text_of(alloc, row, part)?;
-        if fault_of(alloc, text.as_str().as_bytes()) != bad(part, no, why) {
+        if !is_answered(alloc, &[before(part), row], bad(part, no, why))? {
             return Ok(Some(i));
         }
     }

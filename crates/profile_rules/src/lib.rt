@@ -46,3 +46,5 @@ mod element_tests;
 mod fault_tests;
 #[cfg(test)]
 mod limit_tests;
+#[cfg(test)]
+mod told_tests;

@@ -211,6 +211,31 @@ fn four_threads_put_and_the_map_has_all(rt: HostRuntime) -> Result<(), Fail> {
     Ok(())
 }
 
+/// Puts so many entries into one shard: how many ids the map has, and what stands under the last of them.
+fn put_into_one<R: Wait>(
+    rt: &R,
+    alloc: Global,
+    count: u32,
+) -> Result<(u64, Option<Largest>), Memory> {
+    let (shards, mut seat) = Shards::new(alloc)?;
+    let mut entries = Vec::new(alloc);
+    let mut last = OsmId(0);
+    for number in 0..count {
+        last = OsmId(i64::from(number) * 64);
+        entries.push((last, Largest(number)))?;
+    }
+    put_all(rt, &shards, &mut seat, entries)?;
+    let map = shards.close(seat);
+    Ok((map.count(), map.get(last).copied()))
+}
+
+#[test]
+fn a_shard_holds_100_000_entries(rt: HostRuntime) -> Result<(), Fail> {
+    let got = put_into_one(&rt, rt.alloc(), 100_000)?;
+    assert!(rt; got == (100_000, Some(Largest(99_999))), "{got:?}");
+    Ok(())
+}
+
 /// Takes the turn of a shard and keeps it.
 fn hold<V: Join>(shards: &Shards<V>, seat: &mut Seat<Entries<V>, View<V>>, shard: usize) -> bool
     requires seat { (seat.old.table_id ≡ shards.now.place) × (seat.old.me.0.live ≡ 1) × (seat.old.me.0.hold ≡ None) }

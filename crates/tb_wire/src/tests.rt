@@ -1,4 +1,5 @@
 use crate::{FieldValue, Wire, put_len, put_varint, read_field, read_varint, unzigzag, zigzag};
+use std::alloc::{AllocError, Global};
 use std::test::Fail;
 
 #[test]
@@ -62,5 +63,20 @@ fn fields_are_put_and_read(rt: HostRuntime) -> Result<(), Fail> {
     for (bytes, why) in refused {
         assert!(rt; read_field(bytes, 0) == Err(why), "of {bytes:?}");
     }
+    Ok(())
+}
+
+// So many bytes.
+fn body(alloc: Global, count: usize) -> Result<Vec<u8>, AllocError> {
+    vec![in alloc; 7u8; count]
+}
+
+#[test]
+fn a_long_body_is_put_and_read(rt: HostRuntime) -> Result<(), Fail> {
+    let body = body(rt.alloc(), 2_000_000)?;
+    let mut out = Vec::new(rt.alloc());
+    assert!(rt; put_len(&mut out, 1, &body).is_ok());
+    let got = read_field(&out, 0).map(|found| found.map(|f| (f.number, f.value, f.next)));
+    assert!(rt; got == Ok(Some((1, FieldValue::Bytes(&body), 2_000_004))));
     Ok(())
 }
