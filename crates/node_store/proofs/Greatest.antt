@@ -12,9 +12,12 @@ use Rattle.shard_store.specs.Ids.{is_same}
 use Rattle.shard_store.specs.Join.{Entry, join, under, join_all}
 use Rattle.shard_store.proofs.Joins.{by_test, same_id}
 use Rattle.node_store.specs.declared.located.Located.{Located}
-use Rattle.node_store.specs.Order.{greater, world_order, located_order}
+use Rattle.node_store.specs.declared.shaped.Shaped.{Shaped}
+use Rattle.node_store.specs.Order.{greater, world_order, way_order, located_order, shaped_order}
 use Rattle.node_store.specs.Greatest.{IsGreatest, GreatestDecides}
-use Rattle.node_store.specs.Laws.{IsExact, place_total, place_exact, less_is, first, second, not_below, not_itself, located_total, located_exact}
+use Rattle.node_store.specs.Laws.{IsExact, place_total, place_exact, less_is, first, second, not_below, not_itself}
+use Rattle.node_store.specs.NodeLaws.{located_total, located_exact}
+use Rattle.node_store.specs.WayLaws.{shaped_total, shaped_exact}
 
 own_id : (id : OsmId) → is_same id id ≡ true
 own_id id = (Decides-int_eq id.0 id.0).1 refl
@@ -95,3 +98,9 @@ located_below x y less = ap (λ o. ordering_then o (option_cmp world_order x.at 
 
 pub located_decides : GreatestDecides located_order (λ (x : Located). x.place)
 located_decides = decides located_order located_total located_exact (λ (x : Located). x.place) located_below
+
+shaped_below : (x y : Shaped) → is_lt (place_order x.place y.place) ≡ true → shaped_order x y ≡ Less
+shaped_below x y less = ap (λ o. ordering_then o (option_cmp way_order x.shape y.shape)) (less_is (place_order x.place y.place) less)
+
+pub shaped_decides : GreatestDecides shaped_order (λ (x : Shaped). x.place)
+shaped_decides = decides shaped_order shaped_total shaped_exact (λ (x : Shaped). x.place) shaped_below

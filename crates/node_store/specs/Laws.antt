@@ -3,13 +3,11 @@ use Rattle.std.proofs.Common.{◌≡◌, Bool, true, false, true≢false, ap, sy
 use Rattle.std.specs.Ordering.{nat_cmp, ordering_then, ordering_reverse}
 use Rattle.std.specs.Option.{option_cmp}
 use Rattle.std.specs.Cmp.{IsTotalOrder, nat_cmp_total, on_total, then_total}
-use Rattle.std.specs.Cmp.Lexicographic.{options_total}
 use Rattle.std.proofs.lemmas.Bool.Decides.{nat_tests}
 use Rattle.tb_types.specs.declared.element.Place.{Place}
 use Rattle.tb_types.specs.declared.location.World.{World}
 use Rattle.tb_types.specs.Orders.{place_order}
-use Rattle.node_store.specs.declared.located.Located.{Located}
-use Rattle.node_store.specs.Order.{greater, world_order, located_order, located_join}
+use Rattle.node_store.specs.Order.{greater, world_order}
 
 -- by cases on a test
 by_test : {P : Type 0} (b : Bool) → (b ≡ true → P) → (b ≡ false → P) → P
@@ -23,7 +21,7 @@ IsExact order = (x y : _) → order x y ≡ Equal → x ≡ y
 nat_exact : IsExact nat_cmp
 nat_exact x y e = grind (arith, nat_tests)
 
-both_equal : (p q : Ordering) → ordering_then p q ≡ Equal → (p ≡ Equal) × (q ≡ Equal)
+pub both_equal : (p q : Ordering) → ordering_then p q ≡ Equal → (p ≡ Equal) × (q ≡ Equal)
 both_equal Equal q e = (refl, e)
 both_equal Less q e = cc
 both_equal Greater q e = cc
@@ -33,12 +31,12 @@ place_exact p q e =
     let parts = both_equal (nat_cmp p.block q.block) (nat_cmp p.index q.index) e in
     λ i. record { block = nat_exact p.block q.block parts.0 i; index = nat_exact p.index q.index parts.1 i }
 
-world_exact : IsExact world_order
+pub world_exact : IsExact world_order
 world_exact p q e =
     let parts = both_equal (nat_cmp p.x q.x) (nat_cmp p.y q.y) e in
     λ i. record { x = nat_exact p.x q.x parts.0 i; y = nat_exact p.y q.y parts.1 i }
 
-option_exact : {A : Type 0} (order : A → A → Ordering) → IsExact order → (x y : Option A) → option_cmp order x y ≡ Equal → x ≡ y
+pub option_exact : {A : Type 0} (order : A → A → Ordering) → IsExact order → (x y : Option A) → option_cmp order x y ≡ Equal → x ≡ y
 option_exact order exact None None e = refl
 option_exact order exact None (Some y) e = cc
 option_exact order exact (Some x) None e = cc
@@ -47,7 +45,7 @@ option_exact order exact (Some x) (Some y) e = ap Some (exact x y e)
 pub place_total : IsTotalOrder place_order
 place_total = then_total (on_total (λ (p : Place). p.block) nat_cmp_total) (on_total (λ (p : Place). p.index) nat_cmp_total)
 
-world_total : IsTotalOrder world_order
+pub world_total : IsTotalOrder world_order
 world_total = then_total (on_total (λ (p : World). p.x) nat_cmp_total) (on_total (λ (p : World). p.y) nat_cmp_total)
 
 pub less_is : (o : Ordering) → is_lt o ≡ true → o ≡ Less
@@ -109,20 +107,3 @@ module _ {A : Type 0} (order : A → A → Ordering) (total : IsTotalOrder order
 
   pub greater_repeats : (x : A) → greater order x x ≡ x
   greater_repeats x = first x x (not_itself x)
-
-pub located_total : IsTotalOrder located_order
-located_total = then_total (on_total (λ (x : Located). x.place) place_total) (on_total (λ (x : Located). x.at) (options_total world_total))
-
-pub located_exact : IsExact located_order
-located_exact x y e =
-    let parts = both_equal (place_order x.place y.place) (option_cmp world_order x.at y.at) e in
-    λ i. record { place = place_exact x.place y.place parts.0 i; at = option_exact world_order world_exact x.at y.at parts.1 i }
-
-pub located_commutes : (x y : Located) → located_join x y ≡ located_join y x
-located_commutes = greater_commutes located_order located_total located_exact
-
-pub located_associates : (x y z : Located) → located_join (located_join x y) z ≡ located_join x (located_join y z)
-located_associates = greater_associates located_order located_total located_exact
-
-pub located_repeats : (x : Located) → located_join x x ≡ x
-located_repeats = greater_repeats located_order located_total located_exact

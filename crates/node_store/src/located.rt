@@ -23,7 +23,7 @@ impl Located {
 
 impl Join for Located {
     ghost use Rattle.node_store.specs.Order.{located_join};
-    ghost use Rattle.node_store.specs.Laws.{located_commutes, located_associates, located_repeats};
+    ghost use Rattle.node_store.specs.NodeLaws.{located_commutes, located_associates, located_repeats};
 
     ghost both = { located_join };
 

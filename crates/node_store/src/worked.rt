@@ -1,6 +1,7 @@
-ghost use Rattle.node_store.specs.Worked.{WorkedPlaces};
+ghost use Rattle.node_store.specs.Worked.{WorkedPlaces, WorkedWays};
 
-/// Nodes of one id at several places.
+/// Nodes of one id at several places, and ways likewise.
 pub fn worked_places()
-    ensures { WorkedPlaces }
+    ensures nodes { WorkedPlaces }
+    ensures ways { WorkedWays }
 {}

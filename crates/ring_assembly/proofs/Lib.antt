@@ -1,0 +1,14 @@
+pub mod Areas
+pub mod Backward
+pub mod Boxes
+pub mod EndIndex
+pub mod Growing
+pub mod Marks
+pub mod Numbers
+pub mod Outside
+pub mod Paths
+pub mod PolygonCounts
+pub mod PolygonRings
+pub mod RingCounts
+pub mod Stretches
+pub mod Turns
