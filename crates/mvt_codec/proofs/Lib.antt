@@ -6,11 +6,14 @@ pub mod AgainTiles
 pub mod CountSteps
 pub mod GroupRows
 pub mod Growth
+pub mod ItemLengths
 pub mod KeyOrder
 pub mod MessageSteps
 pub mod Seen
 pub mod ShortNumbers
+pub mod Shorts
 pub mod TagSteps
+pub mod TileSizes
 pub mod TileSteps
 pub mod WorkedOrders
 pub mod WorkedTileReads

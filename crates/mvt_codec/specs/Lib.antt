@@ -4,9 +4,11 @@ pub mod Dictionary
 pub mod Grammar
 pub mod Groups
 pub mod Growth
+pub mod Items
 pub mod Messages
 pub mod Order
 pub mod Reading
+pub mod Sizes
 pub mod Tile
 pub mod Uses
 pub mod Value

@@ -36,11 +36,14 @@ pub use count_tile::count_rows;
 pub use fault::TileErr;
 pub use group::{encode_items, layers_of};
 pub use item::{Group, ItemKey, RunItem};
-pub use laws::tiles_are_read_again;
-pub use order::{compare_keys, keys_are_ordered, rank_prefix, rank_suffix};
+pub use laws::{tiles_are_read_again, tiles_are_small};
+pub use order::{
+    compare_keys, keys_are_ordered, kind_as_number, order_as_number, rank_prefix, rank_suffix,
+};
 pub use read_tile::decode_tile;
 pub use row::{LayerRows, TileRow};
 pub use tile::encode_tile;
+pub use value::put_value;
 pub use worked::{worked_keys, worked_reads, worked_tiles};
 
 #[cfg(test)]

@@ -40,14 +40,15 @@ pub fn rank_suffix(key: &ItemKey) -> u64
     u64::from(index) * 65536 + u64::from(rule)
 }
 
-// An order as a number from 0 to 65535, in the same order.
-pub(crate) fn order_as_number(order: i16) -> u16
+/// An order as a number from 0 to 65535, in the same order.
+pub fn order_as_number(order: i16) -> u16
     ensures { result ≡ order_number order }
 {
     (i32::from(order) + 32768) as u16
 }
 
-pub(crate) fn kind_as_number(kind: Kind) -> u8
+/// A kind as a number in the order of kinds: 0 is a node, 1 a way, 2 a relation.
+pub fn kind_as_number(kind: Kind) -> u8
     ensures { result ≡ kind_number kind }
 {
     match kind {

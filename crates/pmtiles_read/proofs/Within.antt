@@ -1,6 +1,6 @@
 -- The bytes of each entry of an open archive lie within the archive.
-use Rattle.std.proofs.Common.{◌≡◌, ℕ, zero, suc, ◌+◌, ◌<◌, ◌≤◌, ◌==◌, Bool, true, false, if◌then◌else◌, nat_lt, nat_le, Option, None, Some, Result, Ok, Err, List, [], ◌∷◌, ◌++◌, length, get_or, take, slice_range, refl, subst, arith}
-use Rattle.std.specs.Prelude.{IfOk, IfSome}
+use Rattle.std.proofs.Common.{◌≡◌, ℕ, zero, suc, ◌+◌, ◌^◌, ◌<◌, ◌≤◌, ◌==◌, Bool, true, false, if◌then◌else◌, nat_lt, nat_le, Option, None, Some, Result, Ok, Err, List, [], ◌∷◌, ◌++◌, length, get_or, take, slice_range, refl, subst, arith}
+use Rattle.std.specs.Prelude.{IfOk, IfSome, Contains}
 use Rattle.std.specs.Str.{bytes_eq}
 use Rattle.std.proofs.lemmas.Bool.{ltb-false, leb-true}
 use Rattle.pmtiles_dirs.specs.declared.entry.DirEntry.{DirEntry}
@@ -10,8 +10,8 @@ use Rattle.pmtiles_dirs.specs.declared.header.Header.{Header}
 use Rattle.pmtiles_dirs.specs.Header.{header_len, header_of, byte_at, magic}
 use Rattle.pmtiles_dirs.specs.Directory.{dir_of}
 use Rattle.pmtiles_dirs.specs.Fault.{Walk, Opened, ◌>>=◌, ensured, section_within, sections_within, checked_header, read_header, with_tiles, with_leaf, with_entry, walk_entries, walk_found, walk_dir, walk_root, most_levels, no_walk, opened}
-use Rattle.pmtiles_read.specs.Tiles.{covers, covering_entry}
-use Rattle.pmtiles_read.proofs.Halving.{found-holds}
+use Rattle.pmtiles_read.specs.Tiles.{IsSound, covers, covering_entry}
+use Rattle.pmtiles_read.proofs.Halving.{found-holds, tiles-end}
 
 either : {A : Type 0} (P : A → Type 0) (b : Bool) (x y : Result A ArcFault) → (b ≡ true → IfOk x P) → (b ≡ false → IfOk y P) → IfOk (if b then x else y) P
 either P true x y h k = h refl
@@ -108,6 +108,13 @@ lies-within archive o k d is l = (subst (λ r. IfOk r (LieWithin archive)) is (o
 
 pub tile-within : (archive : List ℕ) (o : Opened) (id : ℕ) (e : DirEntry) → opened archive ≡ Ok o → Some e ≡ covering_entry o.entries id → o.tiles_at + e.offset + e.len ≤ length archive
 tile-within archive o id e is found = found-holds (λ (x : DirEntry). o.tiles_at + x.offset + x.len ≤ length archive) (covers id) o.entries e (λ k l. lies-within archive o k e is l) found
+
+-- the bytes of an entry that the archive has
+pub entry-within : (archive : List ℕ) (o : Opened) (e : DirEntry) → opened archive ≡ Ok o → Contains o.entries e → o.tiles_at + e.offset + e.len ≤ length archive
+entry-within archive o e is (k, l, same) = subst (λ (x : DirEntry). o.tiles_at + x.offset + x.len ≤ length archive) same (lies-within archive o k e is l)
+
+pub entry-end : (o : Opened) (e : DirEntry) → IsSound o → Contains o.entries e → o.tiles_at + e.offset + e.len < 2 ^ 64
+entry-end o e sound (k, l, same) = subst (λ (x : DirEntry). o.tiles_at + x.offset + x.len < 2 ^ 64) same (tiles-end o.tiles_at 0 o.entries k e sound l)
 
 pub if-some : {A : Type 0} (P Q : A → Type 0) (x : Option A) → ((a : A) → P a → Q a) → IfSome x P → IfSome x Q
 if-some P Q None f h = tt

@@ -92,6 +92,13 @@ pub record TileAnswers (o : Opened) (old new : SourceSeen) (id : ℕ) (result : 
   pub reads : Reads old new result
   pub never_bad : IsNotBad result
 
+-- what loading the content of an entry answers
+pub record ContentAnswers (o : Opened) (e : DirEntry) (old new : SourceSeen) (content : List ℕ) (result : Result ⊤ ReadErr) : Type 0 where
+  pub len : OnOk result (length content ≡ e.len)
+  pub told : (archive : List ℕ) → old.bytes ≡ Some archive → OnOk result (content ≡ content_at archive o e)
+  pub reads : Reads old new result
+  pub never_bad : IsNotBad result
+
 -- an answer with the bytes of a vector
 abbrev pub tile_seen : {A : Type 0} → Result (Option (Vec ℕ A)) ReadErr → Result (Option (List ℕ)) ReadErr
 tile_seen (Ok None) = Ok None

@@ -1,7 +1,7 @@
-ghost use Rattle.std.specs.Prelude.{◌≡◌, ◌+◌, ◌≤◌, length, slice_range, IfOk, IfSome};
+ghost use Rattle.std.specs.Prelude.{◌≡◌, ◌+◌, ◌≤◌, length, slice_range, Contains, IfOk, IfSome};
 ghost use Rattle.pmtiles_dirs.specs.Fault.{Opened};
 ghost use Rattle.pmtiles_read.specs.Tiles.{IsSound, IsOpenedFrom, AreApart, covering_entry};
-ghost use Rattle.pmtiles_read.specs.Answers.{HeaderAnswers, OpenAnswers, TileAnswers, Reads, IsNotBad, tile_seen};
+ghost use Rattle.pmtiles_read.specs.Answers.{HeaderAnswers, OpenAnswers, TileAnswers, ContentAnswers, Reads, IsNotBad, tile_seen};
 
 use crate::error::ReadErr;
 use crate::found::Found;
@@ -94,6 +94,27 @@ impl Archive {
         match load_bytes(self.alloc, source, at, e.len) {
             Ok(bytes) => Ok(Some(bytes)),
             Err(e) => Err(e),
+        }
+    }
+
+    /// Puts the content of one of the archive's entries into `content`, in the place of what is there. A source that tells
+    /// its bytes tells those that were opened. The answer is never `Bad`, and `Failed` only where the source's count of faults
+    /// rose.
+    pub fn load_content<R: Source>(
+        &self,
+        source: &mut R,
+        e: DirEntry,
+        content: &mut Vec<u8>,
+    ) -> Result<(), ReadErr>
+        requires entry { Contains self.now.entries e }
+        requires told { IfSome (R.seen source.old).bytes (λ archive. IsOpenedFrom archive self.now) }
+        ensures { ContentAnswers self.now e (R.seen source.old) (R.seen source.new) content.new.items result }
+    {
+        let at = self.tiles_at + e.offset;
+        content.resize(e.len as usize, 0)?;
+        match source.load(at, content.as_mut_slice()) {
+            Ok(()) => Ok(()),
+            Err(_) => Err(ReadErr::Failed),
         }
     }
 

@@ -1,77 +1,90 @@
--- The pieces of rows and of columns are those of two halves, by what touches each.
-use Rattle.std.proofs.Common.{◌≡◌, ℕ, ◌+◌, ◌*◌, ◌<◌, ◌≤◌, ◌^◌, IfSome, List, [], ◌++◌, append-nil, pos, ◌+ℤ◌, ◌-ℤ◌, ◌≤ℤ◌, true, sym, ap, subst, ◌∙◌, arith}
+-- The pieces of columns, and those of rows, rest on what touches their strip: so they are those of two halves.
+use Rattle.std.proofs.Common.{◌≡◌, ℕ, ◌+◌, ◌-◌, ◌*◌, ◌/◌, ◌<◌, ◌≤◌, ◌^◌, ◌⊎◌, inl, inr, List, [], ◌++◌, append-nil, pos, ◌+ℤ◌, ◌-ℤ◌, ◌≤ℤ◌, true, refl, sym, ap, ◌∙◌, arith}
 use Rattle.std.proofs.lemmas.Int.{ints}
 use Rattle.tb_types.specs.declared.tile.TileXyz.{TileXyz}
 use Rattle.tb_types.specs.declared.shape.Shape.{Shape}
+use Rattle.strip_clip.specs.declared.axis.Axis.{Axis}
 use Rattle.strip_clip.specs.declared.axis.Axis.TheVariants.{X, Y}
 use Rattle.strip_clip.specs.Cuts.{column, row, corner_of}
 use Rattle.tile_clip.specs.declared.outline.Outline.{Outline}
-use Rattle.tile_clip.specs.Pieces.{tile_at, with_tile, of_each, IsPiece}
-use Rattle.tile_clip.specs.Outlines.{touching, is_nothing, row_cut, tile_cut, row_piece, tile_piece, strip_of}
+use Rattle.tile_clip.specs.declared.outline.Halves.{Halves}
+use Rattle.tile_clip.specs.Pieces.{tile_at, with_tile, of_each, AreTakable}
+use Rattle.tile_clip.specs.Outlines.{touching, is_nothing, row_cut, tile_cut, row_piece, tile_piece, column_pieces, strip_of, split}
 use Rattle.tile_clip.proofs.Cutting.{IsPart, part, row-touching, column-touching, row-nothing, column-nothing}
 use Rattle.tile_clip.proofs.Giving.{of_each-split, of_each-same, of_each-nothing}
+use Rattle.tile_clip.proofs.Takable.{takable-front, takable-back, takable-same}
 
+module _ (buffer : ℕ) (axis : Axis) (piece : Outline → ℕ → List (TileXyz × Shape)) where
+  -- pieces of columns or rows rest on what touches the strip of some of them, and of nothing there are none
+  pub record RestOnStrips : Type 0 where
+    pub same : (outline half : Outline) (first count i : ℕ) → half ≡ touching (strip_of axis buffer first count) outline → first ≤ i → i < first + count → piece half i ≡ piece outline i
+    pub none : (outline : Outline) (i : ℕ) → is_nothing outline ≡ true → piece outline i ≡ []
+
+  module _ (law : RestOnStrips) (outline : Outline) where
+    pub nothing : (first count : ℕ) → is_nothing outline ≡ true → of_each (piece outline) first count ≡ []
+    nothing first count e = of_each-nothing (piece outline) first count (λ i a b. law.none outline i e)
+
+    -- two halves
+    half-same : (half : Outline) (first count : ℕ) → half ≡ touching (strip_of axis buffer first count) outline → of_each (piece outline) first count ≡ of_each (piece half) first count
+    half-same half first count is = of_each-same (piece outline) (piece half) first count (λ i a b. sym (law.same outline half first count i is a b))
+
+    two : (first count m n : ℕ) → count ≡ m + n → (before behind : Outline) → before ≡ touching (strip_of axis buffer first m) outline → behind ≡ touching (strip_of axis buffer (first + m) n) outline → of_each (piece outline) first count ≡ of_each (piece before) first m ++ of_each (piece behind) (first + m) n
+    two first count m n sum before behind is is' =
+        ap (of_each (piece outline) first) sum ∙ of_each-split (piece outline) first m n ∙ ap (λ xs. xs ++ of_each (piece outline) (first + m) n) (half-same before first m is) ∙ ap (λ xs. of_each (piece before) first m ++ xs) (half-same behind (first + m) n is')
+
+    module _ (halves : Halves) (first count : ℕ) (are : halves ≡ split axis buffer first count outline) where
+      pub halved : of_each (piece outline) first count ≡ of_each (piece halves.first) first (count / 2) ++ of_each (piece halves.second) (first + count / 2) (count - count / 2)
+      halved = two first count (count / 2) (count - count / 2) (omega arith) halves.first halves.second (ap (λ h. h.first) are) (ap (λ h. h.second) are)
+
+      pub first-takable : AreTakable (of_each (piece outline) first count) → AreTakable (of_each (piece halves.first) first (count / 2))
+      first-takable all = takable-front (of_each (piece halves.first) first (count / 2)) (of_each (piece halves.second) (first + count / 2) (count - count / 2)) (takable-same _ _ halved all)
+
+      pub second-takable : AreTakable (of_each (piece outline) first count) → AreTakable (of_each (piece halves.second) (first + count / 2) (count - count / 2))
+      second-takable all = takable-back (of_each (piece halves.first) first (count / 2)) (of_each (piece halves.second) (first + count / 2) (count - count / 2)) (takable-same _ _ halved all)
+
+    -- all of them are those that the outline reaches
+    unreached : (i : ℕ) → is_nothing (touching (strip_of axis buffer i 1) outline) ≡ true → piece outline i ≡ []
+    unreached i e = sym (law.same outline (touching (strip_of axis buffer i 1) outline) i 1 i refl (omega arith) (omega arith)) ∙ law.none (touching (strip_of axis buffer i 1) outline) i e
+
+    pub reaches : (first count side : ℕ) → first + count ≤ side → ((i : ℕ) → i < side → (i < first) ⊎ (first + count ≤ i) → is_nothing (touching (strip_of axis buffer i 1) outline) ≡ true) → of_each (piece outline) 0 side ≡ of_each (piece outline) first count
+    reaches first count side within others =
+        let f = piece outline in
+        let rest = side - (first + count) in
+        let all : side ≡ first + (count + rest) = omega arith in
+        let start : 0 + first ≡ first = omega arith in
+        ap (of_each f 0) all ∙ of_each-split f 0 first (count + rest) ∙ ap (λ k. of_each f 0 first ++ of_each f k (count + rest)) start ∙ ap (λ xs. xs ++ of_each f first (count + rest)) (of_each-nothing f 0 first (λ i a b. unreached i (others i (omega arith) (inl (omega arith))))) ∙ of_each-split f first count rest ∙ ap (λ xs. of_each f first count ++ xs) (of_each-nothing f (first + count) rest (λ i a b. unreached i (others i (omega arith) (inr a)))) ∙ append-nil (of_each f first count)
+
+-- the strip of some columns or rows has the strip of each of them
 low_bound : (first y buffer : ℕ) → first ≤ y → (pos (4096 * first) -ℤ pos buffer) ≤ℤ (pos (4096 * y) -ℤ pos buffer)
 low_bound first y buffer h = omega (arith, ints)
 
 high_bound : (end y buffer : ℕ) → y < end → (pos (4096 * y) +ℤ pos (4096 + buffer)) ≤ℤ (pos (4096 * end) +ℤ pos buffer)
 high_bound end y buffer h = omega (arith, ints)
 
--- one number alone
-pub of_each-one : {A : Type 0} (f : ℕ → List A) (first count : ℕ) → count ≡ 1 → of_each f first count ≡ f first
-of_each-one f first count e = rw e (append-nil (f first))
-
 module _ (z buffer : ℕ) where
-  -- the strip of some rows has the row of each of them
   row_part : (x first count y : ℕ) → first ≤ y → y < first + count → IsPart (row (corner_of (tile_at z x y)) buffer) (strip_of Y buffer first count)
   row_part x first count y low high = part Y (pos (4096 * y) -ℤ pos buffer) (pos (4096 * y) +ℤ pos (4096 + buffer)) (pos (4096 * first) -ℤ pos buffer) (pos (4096 * (first + count)) +ℤ pos buffer) (low_bound first y buffer low) (high_bound (first + count) y buffer high)
 
   column_part : (first count x : ℕ) → first ≤ x → x < first + count → IsPart (column (corner_of (tile_at z x 0)) buffer) (strip_of X buffer first count)
   column_part first count x low high = part X (pos (4096 * x) -ℤ pos buffer) (pos (4096 * x) +ℤ pos (4096 + buffer)) (pos (4096 * first) -ℤ pos buffer) (pos (4096 * (first + count)) +ℤ pos buffer) (low_bound first x buffer low) (high_bound (first + count) x buffer high)
 
-  -- the pieces of a column
-  abbrev pub column_pieces : Outline → ℕ → List (TileXyz × Shape)
-  column_pieces o x = of_each (tile_piece z buffer o x) 0 (2 ^ z)
+  -- rows
+  pub rows-rest : (x : ℕ) → RestOnStrips buffer Y (row_piece z buffer x)
+  rows-rest x = record {
+    same = λ outline half first count y is low high. ap (with_tile (tile_at z x y)) (ap (row_cut (corner_of (tile_at z x y)) buffer) is ∙ row-touching (corner_of (tile_at z x y)) buffer (strip_of Y buffer first count) outline (row_part x first count y low high));
+    none = λ outline y e. ap (with_tile (tile_at z x y)) (row-nothing (corner_of (tile_at z x y)) buffer (strip_of Y buffer 0 0) outline e);
+  }
 
-  module _ (outline : Outline) where
-    -- rows
-    module _ (x : ℕ) where
-      pub row-half : (half : Outline) (first count y : ℕ) → half ≡ touching (strip_of Y buffer first count) outline → first ≤ y → y < first + count → row_cut (corner_of (tile_at z x y)) buffer half ≡ row_cut (corner_of (tile_at z x y)) buffer outline
-      row-half half first count y is low high = ap (row_cut (corner_of (tile_at z x y)) buffer) is ∙ row-touching (corner_of (tile_at z x y)) buffer (strip_of Y buffer first count) outline (row_part x first count y low high)
+  -- columns
+  tile-same : (outline half : Outline) (first count x y : ℕ) → half ≡ touching (strip_of X buffer first count) outline → first ≤ x → x < first + count → tile_piece z buffer half x y ≡ tile_piece z buffer outline x y
+  tile-same outline half first count x y is low high =
+      ap (with_tile (tile_at z x y)) (ap (tile_cut z buffer x y) is ∙ column-touching (corner_of (tile_at z x y)) buffer (strip_of X buffer first count) (column (corner_of (tile_at z x 0)) buffer) (column_part first count x low high) outline)
 
-      pub rows-fit : (half : Outline) (from all first count : ℕ) → half ≡ touching (strip_of Y buffer first count) outline → from ≤ first → first + count ≤ from + all → ((y : ℕ) → from ≤ y → y < from + all → IfSome (row_cut (corner_of (tile_at z x y)) buffer outline) IsPiece) → (y : ℕ) → first ≤ y → y < first + count → IfSome (row_cut (corner_of (tile_at z x y)) buffer half) IsPiece
-      rows-fit half from all first count is low high fit = λ y a b. subst (λ o. IfSome o IsPiece) (sym (row-half half first count y is a b)) (fit y (omega arith) (omega arith))
+  tile-none : (outline : Outline) (x y : ℕ) → is_nothing outline ≡ true → tile_piece z buffer outline x y ≡ []
+  tile-none outline x y e = ap (with_tile (tile_at z x y)) (column-nothing (corner_of (tile_at z x y)) buffer (strip_of Y buffer 0 0) (column (corner_of (tile_at z x 0)) buffer) outline e)
 
-      rows-same : (half : Outline) (first count : ℕ) → half ≡ touching (strip_of Y buffer first count) outline → of_each (row_piece z buffer x outline) first count ≡ of_each (row_piece z buffer x half) first count
-      rows-same half first count is = of_each-same (row_piece z buffer x outline) (row_piece z buffer x half) first count (λ y a b. ap (with_tile (tile_at z x y)) (sym (row-half half first count y is a b)))
-
-      pub rows-halved : (upper lower : Outline) (first count m n middle : ℕ) → count ≡ m + n → middle ≡ first + m → upper ≡ touching (strip_of Y buffer first m) outline → lower ≡ touching (strip_of Y buffer middle n) outline → of_each (row_piece z buffer x outline) first count ≡ of_each (row_piece z buffer x upper) first m ++ of_each (row_piece z buffer x lower) middle n
-      rows-halved upper lower first count m n middle sum at up down =
-          ap (of_each (row_piece z buffer x outline) first) sum ∙ of_each-split (row_piece z buffer x outline) first m n ∙ ap (λ xs. xs ++ of_each (row_piece z buffer x outline) (first + m) n) (rows-same upper first m up) ∙ ap (λ k. of_each (row_piece z buffer x upper) first m ++ of_each (row_piece z buffer x outline) k n) (sym at) ∙ ap (λ xs. of_each (row_piece z buffer x upper) first m ++ xs) (rows-same lower middle n down)
-
-      pub rows-nothing : (first count : ℕ) → is_nothing outline ≡ true → of_each (row_piece z buffer x outline) first count ≡ []
-      rows-nothing first count e = of_each-nothing (row_piece z buffer x outline) first count (λ y a b. ap (with_tile (tile_at z x y)) (row-nothing (corner_of (tile_at z x y)) buffer (strip_of Y buffer 0 0) outline e))
-
-    -- columns
-    pub column-half : (half : Outline) (first count x y : ℕ) → half ≡ touching (strip_of X buffer first count) outline → first ≤ x → x < first + count → tile_cut z buffer x y half ≡ tile_cut z buffer x y outline
-    column-half half first count x y is low high =
-        ap (tile_cut z buffer x y) is ∙ column-touching (corner_of (tile_at z x y)) buffer (strip_of X buffer first count) (column (corner_of (tile_at z x 0)) buffer) (column_part first count x low high) outline
-
-    pub columns-fit : (half : Outline) (from all first count : ℕ) → half ≡ touching (strip_of X buffer first count) outline → from ≤ first → first + count ≤ from + all → ((x y : ℕ) → from ≤ x → x < from + all → y < 2 ^ z → IfSome (tile_cut z buffer x y outline) IsPiece) → (x y : ℕ) → first ≤ x → x < first + count → y < 2 ^ z → IfSome (tile_cut z buffer x y half) IsPiece
-    columns-fit half from all first count is low high fit = λ x y a b inside. subst (λ o. IfSome o IsPiece) (sym (column-half half first count x y is a b)) (fit x y (omega arith) (omega arith) inside)
-
-    column-same : (half : Outline) (first count x : ℕ) → half ≡ touching (strip_of X buffer first count) outline → first ≤ x → x < first + count → column_pieces outline x ≡ column_pieces half x
-    column-same half first count x is a b = of_each-same (tile_piece z buffer outline x) (tile_piece z buffer half x) 0 (2 ^ z) (λ y c d. ap (with_tile (tile_at z x y)) (sym (column-half half first count x y is a b)))
-
-    columns-same : (half : Outline) (first count : ℕ) → half ≡ touching (strip_of X buffer first count) outline → of_each (column_pieces outline) first count ≡ of_each (column_pieces half) first count
-    columns-same half first count is = of_each-same (column_pieces outline) (column_pieces half) first count (λ x a b. column-same half first count x is a b)
-
-    pub columns-halved : (left right : Outline) (first count m n middle : ℕ) → count ≡ m + n → middle ≡ first + m → left ≡ touching (strip_of X buffer first m) outline → right ≡ touching (strip_of X buffer middle n) outline → of_each (column_pieces outline) first count ≡ of_each (column_pieces left) first m ++ of_each (column_pieces right) middle n
-    columns-halved left right first count m n middle sum at up down =
-        ap (of_each (column_pieces outline) first) sum ∙ of_each-split (column_pieces outline) first m n ∙ ap (λ xs. xs ++ of_each (column_pieces outline) (first + m) n) (columns-same left first m up) ∙ ap (λ k. of_each (column_pieces left) first m ++ of_each (column_pieces outline) k n) (sym at) ∙ ap (λ xs. of_each (column_pieces left) first m ++ xs) (columns-same right middle n down)
-
-    column-empty : (x : ℕ) → is_nothing outline ≡ true → column_pieces outline x ≡ []
-    column-empty x e = of_each-nothing (tile_piece z buffer outline x) 0 (2 ^ z) (λ y a b. ap (with_tile (tile_at z x y)) (column-nothing (corner_of (tile_at z x y)) buffer (strip_of Y buffer 0 0) (column (corner_of (tile_at z x 0)) buffer) outline e))
-
-    pub columns-nothing : (first count : ℕ) → is_nothing outline ≡ true → of_each (column_pieces outline) first count ≡ []
-    columns-nothing first count e = of_each-nothing (column_pieces outline) first count (λ x a b. column-empty x e)
+  pub columns-rest : RestOnStrips buffer X (column_pieces z buffer)
+  columns-rest = record {
+    same = λ outline half first count x is low high. of_each-same (tile_piece z buffer half x) (tile_piece z buffer outline x) 0 (2 ^ z) (λ y a b. tile-same outline half first count x y is low high);
+    none = λ outline x e. of_each-nothing (tile_piece z buffer outline x) 0 (2 ^ z) (λ y a b. tile-none outline x y e);
+  }

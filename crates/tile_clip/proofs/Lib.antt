@@ -7,6 +7,7 @@ pub mod Within
 pub mod Narrowing
 pub mod SideEdges
 pub mod SteadyRows
+pub mod Takable
 pub mod Touching
 pub mod Whole
 pub mod Widening

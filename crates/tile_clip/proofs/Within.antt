@@ -59,8 +59,8 @@ module _ (corner : Grid) (buffer : ℕ) where
       let all : IsEdgeInTile corner buffer made = record { from = end-in-tile e e.from h (inl refl) m; to = end-in-tile e e.to h (inr refl) m } in
       rw (some_same made f k) at all
 
-  pub parts-in-tile : (es : List Edge) → All (IsEdgeWithin X (corner.x -ℤ pos buffer) (corner.x +ℤ pos (4096 + buffer))) es → All (IsEdgeInTile corner buffer) (filter_map (edge_part (row corner buffer)) es)
-  parts-in-tile es h = All-filter_map IsInColumn (IsEdgeInTile corner buffer) (edge_part (row corner buffer)) (λ e f is k. part_case (touches (row corner buffer) e) e f refl is k) es h
+  pub part-in-tile : (e f : Edge) → IsEdgeWithin X (corner.x -ℤ pos buffer) (corner.x +ℤ pos (4096 + buffer)) e → edge_part (row corner buffer) e ≡ Some f → IsEdgeInTile corner buffer f
+  part-in-tile e f within is = part_case (touches (row corner buffer) e) e f refl within is
 
 -- what is left in a strip lies in it
 module _ (s : Strip) (ordered : s.lo ≤ℤ s.hi) where

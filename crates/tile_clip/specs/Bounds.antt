@@ -1,7 +1,8 @@
 -- The bounds between which an outline lies.
-use Rattle.std.specs.Prelude.{ℕ, ℤ, ◌≤ℤ◌, All}
+use Rattle.std.specs.Prelude.{ℕ, ℤ, pos, ◌+◌, ◌*◌, ◌+ℤ◌, ◌-ℤ◌, ◌≤ℤ◌, All}
 use Rattle.tb_types.specs.declared.location.Grid.{Grid}
 use Rattle.strip_clip.specs.declared.axis.Axis.{Axis}
+use Rattle.strip_clip.specs.declared.axis.Axis.TheVariants.{X}
 use Rattle.strip_clip.specs.Axes.{along}
 use Rattle.strip_clip.specs.Cuts.{IsBetween, IsInTile}
 use Rattle.tile_clip.specs.declared.edge.Edge.{Edge}
@@ -30,6 +31,10 @@ abbrev pub IsWithin : Axis → ℤ → ℤ → Outline → Type 0
 IsWithin axis lo hi (OnePoint p) = IsBetween lo hi (along axis p)
 IsWithin axis lo hi (Paths es) = All (IsEdgeWithin axis lo hi) es
 IsWithin axis lo hi (Polygons polygons) = All (AreRingsWithin axis lo hi) polygons
+
+-- an outline lies in a column and its buffer
+abbrev pub IsInColumn : ℕ → ℕ → Outline → Type 0
+IsInColumn buffer x outline = IsWithin X (pos (4096 * x) -ℤ pos buffer) (pos (4096 * x) +ℤ pos (4096 + buffer)) outline
 
 -- a span has all of another
 pub record IsWider (old new : Span) : Type 0 where

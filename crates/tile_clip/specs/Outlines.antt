@@ -1,5 +1,5 @@
 -- A shape as the edges of its paths and rings, and what is left of them in columns and rows.
-use Rattle.std.specs.Prelude.{ℕ, ◌+◌, ◌*◌, Bool, true, false, not, ◌&&◌, ◌||◌, if◌then◌else◌, pos, ◌+ℤ◌, ◌-ℤ◌, Option, Some, None, option_and_then, List, [], ◌∷◌, map, filter, filter_map, flat_map}
+use Rattle.std.specs.Prelude.{ℕ, ◌+◌, ◌-◌, ◌*◌, ◌/◌, ◌^◌, Bool, true, false, not, ◌&&◌, ◌||◌, if◌then◌else◌, pos, ◌+ℤ◌, ◌-ℤ◌, Option, Some, None, option_and_then, List, [], ◌∷◌, map, filter, filter_map, flat_map}
 use Rattle.tb_types.specs.declared.location.Grid.{Grid}
 use Rattle.tb_types.specs.declared.tile.TileXyz.{TileXyz}
 use Rattle.tb_types.specs.declared.shape.Shape.{Shape}
@@ -15,8 +15,9 @@ use Rattle.strip_clip.specs.Cuts.{corner_of, column, row, relative, with_holes, 
 use Rattle.tile_clip.specs.declared.edge.Edge.{Edge}
 use Rattle.tile_clip.specs.declared.outline.RingEdges.{RingEdges}
 use Rattle.tile_clip.specs.declared.outline.Outline.{Outline}
+use Rattle.tile_clip.specs.declared.outline.Halves.{Halves}
 use Rattle.tile_clip.specs.declared.outline.Outline.TheVariants.{OnePoint, Paths, Polygons}
-use Rattle.tile_clip.specs.Pieces.{tile_at, with_tile}
+use Rattle.tile_clip.specs.Pieces.{tile_at, with_tile, of_each}
 
 -- a list has no item
 abbrev pub is_empty : {A : Type 0} → List A → Bool
@@ -148,3 +149,14 @@ tile_piece z buffer outline x y = with_tile (tile_at z x y) (tile_cut z buffer x
 -- the strip of so many columns or rows, with the buffer
 abbrev pub strip_of : Axis → ℕ → ℕ → ℕ → Strip
 strip_of axis buffer first count = record { axis = axis; lo = pos (4096 * first) -ℤ pos buffer; hi = pos (4096 * (first + count)) +ℤ pos buffer }
+
+-- the pieces of a column
+abbrev pub column_pieces : ℕ → ℕ → Outline → ℕ → List (TileXyz × Shape)
+column_pieces z buffer outline x = of_each (tile_piece z buffer outline x) 0 (2 ^ z)
+
+-- what touches the first half of so many columns or rows, and what touches the others
+abbrev pub split : Axis → ℕ → ℕ → ℕ → Outline → Halves
+split axis buffer first count outline = record {
+  first = touching (strip_of axis buffer first (count / 2)) outline;
+  second = touching (strip_of axis buffer (first + count / 2) (count - count / 2)) outline;
+}

@@ -1,5 +1,5 @@
 -- The tiles of a zoom that a shape is cut into, with its piece in each.
-use Rattle.std.specs.Prelude.{ℕ, zero, suc, ◌+◌, ◌^◌, ◌<◌, Option, None, Some, List, [], ◌∷◌, ◌++◌}
+use Rattle.std.specs.Prelude.{ℕ, zero, suc, ◌+◌, ◌^◌, ◌<◌, Option, None, Some, List, [], ◌∷◌, ◌++◌, All}
 use Rattle.tb_types.specs.declared.tile.TileXyz.{TileXyz}
 use Rattle.tb_types.specs.declared.shape.Shape.{Shape}
 use Rattle.strip_clip.specs.Cuts.{cut_of}
@@ -27,3 +27,6 @@ pieces_of z buffer shape = of_each (λ x. of_each (λ y. with_tile (tile_at z x 
 pub record IsPiece (piece : Shape) : Type 0 where
   pub clean : IsCleanCut piece
   pub few : points_of piece < 2 ^ 29
+
+abbrev pub AreTakable : List (TileXyz × Shape) → Type 0
+AreTakable pieces = All (λ given. IsPiece given.1) pieces

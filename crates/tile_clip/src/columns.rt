@@ -1,38 +1,31 @@
-ghost use Rattle.std.specs.Prelude.{◌≡◌, ◌+◌, ◌^◌, ◌<◌, ◌≤◌, IfOk, IfSome};
+ghost use Rattle.std.specs.Prelude.{◌≡◌, ◌+◌, ◌^◌, ◌≤◌, IfOk};
 ghost use Rattle.strip_clip.specs.Cuts.{column, corner_of};
 ghost use Rattle.tile_clip.specs.Given.{Gives};
-ghost use Rattle.tile_clip.specs.Outlines.{outline_in, tile_cut, tile_piece};
-ghost use Rattle.tile_clip.specs.Pieces.{tile_at, of_each, IsPiece};
+ghost use Rattle.tile_clip.specs.Outlines.{outline_in, column_pieces};
+ghost use Rattle.tile_clip.specs.Pieces.{tile_at, of_each, AreTakable};
 
-use crate::outline::{Outline, is_nothing, outline_halves, outline_in};
+use crate::outline::{Outline, is_nothing, outline_in, split};
 use crate::rows::all_rows;
-use crate::span::span_of;
+use crate::span::reached;
 use crate::taker::{ClipErr, PieceTaker};
-use crate::tiling::{Tiling, end_after, first_from, side, strip_of};
+use crate::tiling::{Column, Tiling};
 use std::alloc::Global;
-use strip_clip::{Axis, Window};
-use tb_types::{Memory, TileXyz};
+use strip_clip::Axis;
+use tb_types::{Grid, Memory};
 
-// Gives the pieces of all columns of a zoom.
+// Gives the pieces of all columns of a zoom. The list of points is one to work in.
 pub fn all_columns<T: PieceTaker>(
     alloc: Global,
     outline: Outline,
     tiling: Tiling,
+    points: &mut Vec<Grid>,
     take: &mut T,
 ) -> Result<(), ClipErr<T::Stop>>
-    requires zoom { tiling.z ≤ 14 }
-    requires buffer { tiling.buffer ≤ 256 }
-    requires pieces { (x y : _) → x < 2 ^ tiling.z → y < 2 ^ tiling.z → IfSome (tile_cut tiling.z tiling.buffer x y outline) IsPiece }
-    ensures { Gives T.taken T.steps T.stops take.old take.new
-        (of_each (λ x. of_each (tile_piece tiling.z tiling.buffer outline x) 0 (2 ^ tiling.z)) 0 (2 ^ tiling.z)) result }
+    requires { AreTakable (of_each (column_pieces tiling.z tiling.buffer outline) 0 (2 ^ tiling.z)) }
+    ensures { Gives T.taken T.steps T.stops take.old take.new (of_each (column_pieces tiling.z tiling.buffer outline) 0 (2 ^ tiling.z)) result }
 {
-    let span = span_of(Axis::X, &outline);
-    let first = first_from(span.lo, tiling.buffer);
-    let end = end_after(span.hi, tiling.buffer, side(tiling.z));
-    if end <= first {
-        return Ok(());
-    }
-    columns(alloc, outline, tiling, first, end - first, take)
+    let part = reached(Axis::X, tiling, &outline);
+    columns(alloc, outline, tiling, part.first, part.count, points, take)
 }
 
 // Gives the pieces of so many columns, from a first one on.
@@ -44,33 +37,31 @@ fn columns<T: PieceTaker>(
     tiling: Tiling,
     first: u32,
     count: u32,
+    points: &mut Vec<Grid>,
     take: &mut T,
 ) -> Result<(), ClipErr<T::Stop>>
-    requires zoom { tiling.z ≤ 14 }
-    requires buffer { tiling.buffer ≤ 256 }
-    requires some { 0 < count }
     requires columns { first + count ≤ 2 ^ tiling.z }
-    requires pieces { (x y : _) → first ≤ x → x < first + count → y < 2 ^ tiling.z → IfSome (tile_cut tiling.z tiling.buffer x y outline) IsPiece }
-    ensures { Gives T.taken T.steps T.stops take.old take.new
-        (of_each (λ x. of_each (tile_piece tiling.z tiling.buffer outline x) 0 (2 ^ tiling.z)) first count) result }
+    requires pieces { AreTakable (of_each (column_pieces tiling.z tiling.buffer outline) first count) }
+    ensures { Gives T.taken T.steps T.stops take.old take.new (of_each (column_pieces tiling.z tiling.buffer outline) first count) result }
 {
+    if count == 0 {
+        return Ok(());
+    }
     if is_nothing(&outline) {
         return Ok(());
     }
     if count == 1 {
-        return one_column(alloc, outline, tiling, first, take);
+        return one_column(alloc, outline, Column { tiling, x: first }, points, take);
     }
-    let half = count / 2;
-    let middle = first + half;
-    let rest = count - half;
-    let before = strip_of(Axis::X, tiling.buffer, first, half);
-    let behind = strip_of(Axis::X, tiling.buffer, middle, rest);
-    let halves = match outline_halves(alloc, before, behind, outline) {
+    let halves = match split(alloc, Axis::X, tiling, first, count, outline) {
         Ok(halves) => halves,
         Err(_) => return Err(ClipErr::Memory),
     };
-    match columns(alloc, halves.first, tiling, first, half, take) {
-        Ok(()) => columns(alloc, halves.second, tiling, middle, rest, take),
+    let half = count / 2;
+    let middle = first + half;
+    let rest = count - half;
+    match columns(alloc, halves.first, tiling, first, half, points, take) {
+        Ok(()) => columns(alloc, halves.second, tiling, middle, rest, points, take),
         Err(e) => Err(e),
     }
 }
@@ -79,37 +70,27 @@ fn columns<T: PieceTaker>(
 fn one_column<T: PieceTaker>(
     alloc: Global,
     outline: Outline,
-    tiling: Tiling,
-    x: u32,
+    column: Column,
+    points: &mut Vec<Grid>,
     take: &mut T,
 ) -> Result<(), ClipErr<T::Stop>>
-    requires zoom { tiling.z ≤ 14 }
-    requires buffer { tiling.buffer ≤ 256 }
-    requires column { x < 2 ^ tiling.z }
-    requires pieces { (y : _) → y < 2 ^ tiling.z → IfSome (tile_cut tiling.z tiling.buffer x y outline) IsPiece }
-    ensures { Gives T.taken T.steps T.stops take.old take.new (of_each (tile_piece tiling.z tiling.buffer outline x) 0 (2 ^ tiling.z)) result }
+    requires { AreTakable (column_pieces column.tiling.z column.tiling.buffer outline column.x) }
+    ensures { Gives T.taken T.steps T.stops take.old take.new (column_pieces column.tiling.z column.tiling.buffer outline column.x) result }
 {
-    match column_part(alloc, outline, tiling, x) {
-        Ok(in_column) => all_rows(alloc, in_column, tiling, x, take),
+    match column_part(alloc, outline, column, points) {
+        Ok(in_column) => all_rows(alloc, in_column, column, points, take),
         Err(_) => Err(ClipErr::Memory),
     }
 }
 
 // The outline of what is left in a column.
-fn column_part(alloc: Global, outline: Outline, tiling: Tiling, x: u32) -> Result<Outline, Memory>
-    requires zoom { tiling.z ≤ 14 }
-    requires buffer { tiling.buffer ≤ 256 }
-    requires column { x < 2 ^ tiling.z }
-    ensures { IfOk result (λ part. part ≡ outline_in (column (corner_of (tile_at tiling.z x 0)) tiling.buffer) outline) }
+fn column_part(
+    alloc: Global,
+    outline: Outline,
+    of: Column,
+    points: &mut Vec<Grid>,
+) -> Result<Outline, Memory>
+    ensures { IfOk result (λ part. part ≡ outline_in (column (corner_of (tile_at of.tiling.z of.x 0)) of.tiling.buffer) outline) }
 {
-    let top = TileXyz {
-        z: tiling.z,
-        x,
-        y: 0,
-    };
-    outline_in(
-        alloc,
-        Window::of_tile(top, tiling.buffer).column(),
-        &outline,
-    )
+    outline_in(alloc, of.window(0).column(), &outline, points)
 }

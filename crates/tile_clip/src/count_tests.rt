@@ -1,7 +1,7 @@
 ghost use Rattle.std.specs.Prelude.{◌<◌, ◌≤◌, ◌^◌, None, IfOk, ⊤};
 ghost use Rattle.strip_clip.specs.CleanCuts.{points_of};
 
-use super::tests::{area, line, two_areas};
+use super::tests::{area, line, polygon, two_areas};
 use super::*;
 use std::alloc::Global;
 use tb_types::{Memory, Seq, Shape, TileXyz};
@@ -56,18 +56,27 @@ fn points_in(piece: &Shape) -> usize {
     count
 }
 
-// The pieces of a shape at zoom 14 with a buffer of 64 units.
-fn count_pieces(alloc: Global, shape: &Shape) -> Result<(usize, usize), Memory>
-    requires { points_of shape.now < 2 ^ 27 }
+// How many pieces a shape has, and how many points they have.
+fn count_in(alloc: Global, shape: &Shape, z: u8, buffer: u32) -> Result<(usize, usize), Memory>
+    requires zoom { z ≤ 14 }
+    requires buffer { buffer ≤ 256 }
+    requires few { points_of shape.now < 2 ^ 27 }
 {
     let mut counts = Counts {
         pieces: 0,
         points: 0,
     };
-    match for_tiles(alloc, shape, 14, 64, &mut counts) {
+    match for_tiles(alloc, shape, z, buffer, &mut counts) {
         Ok(()) => Ok((counts.pieces, counts.points)),
         Err(_) => Err(Memory),
     }
+}
+
+// At zoom 14 with a buffer of 64 units.
+fn count_pieces(alloc: Global, shape: &Shape) -> Result<(usize, usize), Memory>
+    requires { points_of shape.now < 2 ^ 27 }
+{
+    count_in(alloc, shape, 14, 64)
 }
 
 // The width of 9,999 tiles, and that of 10,000.
@@ -105,6 +114,116 @@ fn gaps_and_holes_of_areas_cost_nothing(rt: HostRuntime) -> Result<(), Memory> {
     let two = two_areas(alloc, &tall, &within, &[])?;
     assert!(rt; count_pieces(alloc, &two)? == (40004, 200008));
     Ok(())
+}
+
+// The width of all tiles of zoom 14.
+const WORLD: i32 = 67108864;
+
+// Squares over all rows or all columns, beyond them and up to their bounds, and squares about the last tile and its buffer.
+#[test]
+fn squares_over_a_whole_zoom_have_their_pieces(rt: HostRuntime) -> Result<(), Memory> {
+    let alloc = rt.alloc();
+    let rows = [
+        ((100, -1000), (3900, WORLD + 1000), (16384, 65536)),
+        ((100, 0), (3900, WORLD), (16384, 65536)),
+        ((4096, 0), (8192, WORLD), (49152, 196608)),
+        ((-1000, 100), (WORLD + 1000, 3900), (16384, 65536)),
+        (
+            (WORLD - 3996, WORLD - 3996),
+            (WORLD - 196, WORLD - 196),
+            (1, 4),
+        ),
+        ((WORLD + 63, 0), (WORLD + 100, 100), (1, 4)),
+        ((WORLD + 64, 0), (WORLD + 100, 100), (0, 0)),
+    ];
+    for ((left, top), (right, bottom), wanted) in rows {
+        let ring = [(left, top), (right, top), (right, bottom), (left, bottom)];
+        let shape = area(alloc, &ring, &[])?;
+        assert!(rt; count_pieces(alloc, &shape)? == wanted, "{left} {top}");
+    }
+    Ok(())
+}
+
+// Lines over all columns, over all rows, and over the corners of all tiles on a diagonal.
+#[test]
+fn lines_over_a_whole_zoom_have_their_pieces(rt: HostRuntime) -> Result<(), Memory> {
+    let alloc = rt.alloc();
+    let rows = [
+        ((-9, 2048), (WORLD + 9, 2048), (16384, 32768)),
+        ((2048, -9), (2048, WORLD + 9), (16384, 32768)),
+        ((-5, -5), (WORLD + 5, WORLD + 5), (49150, 98300)),
+        ((i32::MIN, i32::MIN), (i32::MAX, i32::MAX), (49150, 98300)),
+    ];
+    for (from, to, wanted) in rows {
+        let shape = line(alloc, &[from, to])?;
+        assert!(rt; count_pieces(alloc, &shape)? == wanted, "{wanted:?}");
+    }
+    Ok(())
+}
+
+// A line along the middle of the first row has a piece in each column of each zoom, whatever the buffer.
+#[test]
+fn each_zoom_and_buffer_has_its_pieces(rt: HostRuntime) -> Result<(), Memory> {
+    let alloc = rt.alloc();
+    for z in 0..15u8 {
+        let shape = line(alloc, &[(0, 2048), (4096 << z, 2048)])?;
+        assert!(rt;
+            count_in(alloc, &shape, z, 256)? == (1 << z, 2 << z),
+            "zoom {z}"
+        );
+    }
+    for buffer in 0..257u32 {
+        let shape = line(alloc, &[(0, 2048), (16384, 2048)])?;
+        assert!(rt;
+            count_in(alloc, &shape, 2, buffer)? == (4, 8),
+            "buffer {buffer}"
+        );
+    }
+    Ok(())
+}
+
+// A path of 100,000 points over 1,001 columns, and a path and a ring of as many in one tile.
+#[test]
+fn long_shapes_have_their_pieces(rt: HostRuntime) -> Result<(), Memory> {
+    let alloc = rt.alloc();
+    let mut wide = Vec::new(alloc);
+    let mut near = Vec::new(alloc);
+    for i in 0..100000i32 {
+        wide.push((i.wrapping_mul(41), 2048 + i % 2))?;
+        near.push((64 + i / 26, 100 + i.wrapping_mul(37) % 3900))?;
+    }
+    if wide.len() > 100000 || near.len() > 100000 {
+        return Err(Memory);
+    }
+    assert!(rt; count_pieces(alloc, &line(alloc, &wide)?)? == (1001, 105098));
+    assert!(rt; count_pieces(alloc, &line(alloc, &near)?)? == (1, 100000));
+    assert!(rt; count_pieces(alloc, &area(alloc, &near, &[])?)? == (1, 100000));
+    Ok(())
+}
+
+// A thousand small squares, each with a hole, over 13 tiles.
+#[test]
+fn many_polygons_have_their_pieces(rt: HostRuntime) -> Result<(), Memory> {
+    let alloc = rt.alloc();
+    let many = thousand_squares(alloc)?;
+    assert!(rt; count_pieces(alloc, &many)? == (13, 8300));
+    Ok(())
+}
+
+fn thousand_squares(alloc: Global) -> Result<Shape, Memory>
+    ensures { IfOk result (λ shape. points_of shape < 2 ^ 27) }
+{
+    let mut polygons = Seq::new(alloc);
+    for i in 0..1000u32 {
+        let at = 50 * i as i32;
+        polygons.push(polygon(alloc, &square(at, 100, 40), &square(at + 10, 110, 20))?)?;
+    }
+    Ok(Shape::Area(polygons))
+}
+
+fn square(x: i32, y: i32, side: i32) -> [(i32, i32); 4] {
+    let (right, below) = (x.wrapping_add(side), y.wrapping_add(side));
+    [(x, y), (right, y), (right, below), (x, below)]
 }
 
 // The box of this path has 92,294,370 tiles.

@@ -40,7 +40,8 @@ pub struct EdgeHalves {
     pub second: Seq<Edge>,
 }
 
-// Which edges touch each of two strips. Where all of them touch one, their list is handed on, without a copy.
+// Which edges touch each of two strips. Where all of them touch the second, their list is handed on to it; else it is handed
+// on to the first, with the edges that touch that one. So at most one part is a copy.
 pub fn halves(
     alloc: Global,
     first: Strip,
@@ -49,15 +50,8 @@ pub fn halves(
 ) -> Result<EdgeHalves, Memory>
     ensures { IfOk result (λ both. both ≡ record { first = filter (touches first) edges; second = filter (touches second) edges }) }
 {
-    if all_touch(first, edges.as_slice()) {
-        let in_second = edges_touching(alloc, second, edges.as_slice())?;
-        return Ok(EdgeHalves {
-            first: edges,
-            second: in_second,
-        });
-    }
-    let in_first = edges_touching(alloc, first, edges.as_slice())?;
     if all_touch(second, edges.as_slice()) {
+        let in_first = edges_touching(alloc, first, edges.as_slice())?;
         return Ok(EdgeHalves {
             first: in_first,
             second: edges,
@@ -65,9 +59,18 @@ pub fn halves(
     }
     let in_second = edges_touching(alloc, second, edges.as_slice())?;
     Ok(EdgeHalves {
-        first: in_first,
+        first: only_touching(first, edges),
         second: in_second,
     })
+}
+
+// The edges that touch a strip, in the list that they come in.
+fn only_touching(strip: Strip, edges: Seq<Edge>) -> Seq<Edge>
+    ensures { result ≡ filter (touches strip) edges }
+{
+    let mut kept = edges.into_vec();
+    kept.retain(|edge| touches(strip, *edge));
+    Seq::from_vec(kept)
 }
 
 // Whether all edges touch a strip.

@@ -1,13 +1,14 @@
-ghost use Rattle.std.specs.Prelude.{◌≡◌, ◌++◌, [], map, IfOk, OnOk};
+ghost use Rattle.std.specs.Prelude.{◌≡◌, ◌+◌, ◌^◌, ◌≤◌, ◌++◌, [], map, IfOk, OnOk};
 ghost use Rattle.std.specs.List.{cons_option};
 ghost use Rattle.tile_clip.specs.declared.outline.Outline.TheVariants as outlines;
-ghost use Rattle.tile_clip.specs.Outlines.{outline_of, touching, touching_rings, touching_inners, some_edges, some_rings, outline_in, is_nothing, rings_in, polygon_edges, point_in};
+ghost use Rattle.tile_clip.specs.Outlines.{outline_of, touching, touching_rings, touching_inners, some_edges, some_rings, outline_in, is_nothing, rings_in, polygon_edges, point_in, split};
 
 use crate::edge::{Edge, halves};
 use crate::paths::{all_path_edges, path_edges_in};
 use crate::rings::{ring_edges, ring_in};
+use crate::tiling::{Tiling, strip_of};
 use std::alloc::Global;
-use strip_clip::{Strip, is_inside};
+use strip_clip::{Axis, Strip, is_inside};
 use tb_types::{Grid, GridPolygon, Memory, Seq, Shape};
 
 // The edges of a polygon's outer ring, and those of each inner ring.
@@ -67,8 +68,26 @@ pub struct Halves {
     pub second: Outline,
 }
 
-// What of an outline touches each of two strips. Edges that all touch one of them are handed on, without a copy.
-pub fn outline_halves(
+// What of an outline touches the first half of so many columns or rows, and what touches the others.
+pub fn split(
+    alloc: Global,
+    axis: Axis,
+    tiling: Tiling,
+    first: u32,
+    count: u32,
+    outline: Outline,
+) -> Result<Halves, Memory>
+    requires { first + count ≤ 2 ^ tiling.z }
+    ensures { IfOk result (λ both. both ≡ split axis tiling.buffer first count outline) }
+{
+    let half = count / 2;
+    let before = strip_of(axis, tiling, first, half);
+    let behind = strip_of(axis, tiling, first + half, count - half);
+    outline_halves(alloc, before, behind, outline)
+}
+
+// What of an outline touches each of two strips. At most one part of its edges is a copy.
+fn outline_halves(
     alloc: Global,
     first: Strip,
     second: Strip,
@@ -203,8 +222,13 @@ pub fn is_nothing(outline: &Outline) -> bool
     }
 }
 
-// The outline of what is left in a strip.
-pub fn outline_in(alloc: Global, strip: Strip, outline: &Outline) -> Result<Outline, Memory>
+// The outline of what is left in a strip. The list of points is one to work in.
+pub fn outline_in(
+    alloc: Global,
+    strip: Strip,
+    outline: &Outline,
+    points: &mut Vec<Grid>,
+) -> Result<Outline, Memory>
     ensures { IfOk result (λ kept. kept ≡ outline_in strip outline.now) }
 {
     match outline {
@@ -214,6 +238,7 @@ pub fn outline_in(alloc: Global, strip: Strip, outline: &Outline) -> Result<Outl
             alloc,
             strip,
             polygons.as_slice(),
+            points,
         )?)),
     }
 }
@@ -222,23 +247,32 @@ fn polygons_in(
     alloc: Global,
     strip: Strip,
     polygons: &[RingEdges],
+    points: &mut Vec<Grid>,
 ) -> Result<Seq<RingEdges>, Memory>
     ensures { IfOk result (λ kept. kept ≡ map (rings_in strip) polygons.now) }
 {
-    let mut kept = Seq::new(alloc);
+    let mut kept = Vec::with_capacity(alloc, polygons.len())?;
     for rings in polygons {
-        kept.push(rings_in(alloc, strip, rings)?)?;
+        kept.push(rings_in(alloc, strip, rings, points)?)?;
     }
-    Ok(kept)
+    Ok(Seq::from_vec(kept))
 }
 
-fn rings_in(alloc: Global, strip: Strip, rings: &RingEdges) -> Result<RingEdges, Memory>
+fn rings_in(
+    alloc: Global,
+    strip: Strip,
+    rings: &RingEdges,
+    points: &mut Vec<Grid>,
+) -> Result<RingEdges, Memory>
     ensures { IfOk result (λ kept. kept ≡ rings_in strip rings.now) }
 {
-    let outer = ring_in(alloc, strip, rings.outer.as_slice())?;
-    let mut inners = Seq::new(alloc);
+    let outer = ring_in(alloc, strip, rings.outer.as_slice(), points)?;
+    let mut inners = Vec::with_capacity(alloc, rings.inners.as_slice().len())?;
     for inner in rings.inners.as_slice() {
-        inners.push(ring_in(alloc, strip, inner.as_slice())?)?;
+        inners.push(ring_in(alloc, strip, inner.as_slice(), points)?)?;
     }
-    Ok(RingEdges { outer, inners })
+    Ok(RingEdges {
+        outer,
+        inners: Seq::from_vec(inners),
+    })
 }

@@ -52,7 +52,7 @@ pub fn path_edges_in(alloc: Global, strip: Strip, edges: &[Edge]) -> Result<Seq<
 }
 
 // The part of an edge in a strip, with which a path ends where the edge leaves the strip.
-fn edge_part(strip: Strip, edge: Edge) -> Option<Edge>
+pub fn edge_part(strip: Strip, edge: Edge) -> Option<Edge>
     ensures { result ≡ edge_part strip edge }
 {
     if !touches(strip, edge) {

@@ -10,24 +10,31 @@ ghost use Rattle.tile_clip.specs.Outlines.{row_cut, point_cut, paths_cut, polygo
 
 use crate::edge::{Edge, touches};
 use crate::outline::{Outline, RingEdges};
-use crate::paths::path_edges_in;
+use crate::paths::edge_part;
 use std::alloc::Global;
 use strip_clip::{Window, clean_ring, has_area_left, is_inside, reach, some_area, some_line};
 use tb_types::{Grid, GridPolygon, Memory, Seq, Shape, without_repeats};
 
-// What is left in a tile's row of the outline in its column, counted from the tile's corner, after clean-up.
+// What is left in a tile's row of the outline in its column, counted from the tile's corner, after clean-up. The list of
+// points is one to work in.
 #[tactic(auto, unfolding(crate::specs::Outlines::row_cut))]
-pub fn row_cut(alloc: Global, window: Window, outline: &Outline) -> Result<Option<Shape>, Memory>
+pub fn row_cut(
+    alloc: Global,
+    window: Window,
+    outline: &Outline,
+    points: &mut Vec<Grid>,
+) -> Result<Option<Shape>, Memory>
     requires { IsWithin axes.X (window.corner.x -ℤ pos window.buffer) (window.corner.x +ℤ pos (4096 + window.buffer)) outline.now }
     ensures { IfOk result (λ kept. kept ≡ row_cut window.corner window.buffer outline.now) }
 {
     match outline {
         Outline::OnePoint(p) => Ok(point_cut(window, *p)),
-        Outline::Paths(edges) => Ok(some_line(paths_cut(alloc, window, edges.as_slice())?)),
+        Outline::Paths(edges) => Ok(some_line(paths_cut(alloc, window, edges.as_slice(), points)?)),
         Outline::Polygons(polygons) => Ok(some_area(polygons_cut(
             alloc,
             window,
             polygons.as_slice(),
+            points,
         )?)),
     }
 }
@@ -42,27 +49,25 @@ fn point_cut(window: Window, p: Grid) -> Option<Shape>
     None
 }
 
-// The paths of a line in a tile.
-fn paths_cut(alloc: Global, window: Window, edges: &[Edge]) -> Result<Seq<Seq<Grid>>, Memory>
+// The paths of a line in a tile, from edges that follow on each other, after clean-up.
+fn paths_cut(
+    alloc: Global,
+    window: Window,
+    edges: &[Edge],
+    path: &mut Vec<Grid>,
+) -> Result<Seq<Seq<Grid>>, Memory>
     requires { All (IsEdgeWithin axes.X (window.corner.x -ℤ pos window.buffer) (window.corner.x +ℤ pos (4096 + window.buffer))) edges.now }
     ensures { IfOk result (λ kept. kept ≡ paths_cut window.corner window.buffer edges.now) }
 {
-    let in_row = path_edges_in(alloc, window.row(), edges)?;
-    clean_paths_of(alloc, window, in_row.as_slice())
-}
-
-// The paths of edges that follow on each other, counted from the corner, after clean-up.
-fn clean_paths_of(alloc: Global, window: Window, edges: &[Edge]) -> Result<Seq<Seq<Grid>>, Memory>
-    requires { All (IsEdgeInTile window.corner window.buffer) edges.now }
-    ensures { IfOk result (λ kept. kept ≡ clean_paths (map (map (relative window.corner)) (paths_of edges.now))) }
-{
     let mut kept = Seq::new(alloc);
-    let mut path = Vec::new(alloc);
+    path.clear();
     for edge in edges {
-        add_edge(alloc, window, *edge, &mut path, &mut kept)?;
+        if let Some(part) = edge_part(window.row(), *edge) {
+            add_edge(alloc, window, part, path, &mut kept)?;
+        }
     }
     if !path.is_empty() {
-        add_clean(alloc, &path, &mut kept)?;
+        add_clean(alloc, path, &mut kept)?;
     }
     Ok(kept)
 }
@@ -104,13 +109,14 @@ fn polygons_cut(
     alloc: Global,
     window: Window,
     polygons: &[RingEdges],
+    points: &mut Vec<Grid>,
 ) -> Result<Seq<GridPolygon>, Memory>
     requires { All (AreRingsWithin axes.X (window.corner.x -ℤ pos window.buffer) (window.corner.x +ℤ pos (4096 + window.buffer))) polygons.now }
     ensures { IfOk result (λ kept. kept ≡ filter_map (polygon_cut window.corner window.buffer) polygons.now) }
 {
     let mut kept = Seq::new(alloc);
     for rings in polygons {
-        if let Some(polygon) = polygon_cut(alloc, window, rings)? {
+        if let Some(polygon) = polygon_cut(alloc, window, rings, points)? {
             kept.push(polygon)?;
         }
     }
@@ -122,28 +128,34 @@ fn polygon_cut(
     alloc: Global,
     window: Window,
     rings: &RingEdges,
+    points: &mut Vec<Grid>,
 ) -> Result<Option<GridPolygon>, Memory>
     requires { AreRingsWithin axes.X (window.corner.x -ℤ pos window.buffer) (window.corner.x +ℤ pos (4096 + window.buffer)) rings.now }
     ensures { IfOk result (λ kept. kept ≡ polygon_cut window.corner window.buffer rings.now) }
 {
-    let outer = ring_cut(alloc, window, true, rings.outer.as_slice())?;
+    let outer = ring_cut(alloc, window, true, rings.outer.as_slice(), points)?;
     let Some(outer) = outer else {
         return Ok(None);
     };
-    let inners = inners_cut(alloc, window, rings.inners.as_slice())?;
+    let inners = inners_cut(alloc, window, rings.inners.as_slice(), points)?;
     if !has_area_left(outer.as_slice(), inners.as_slice()) {
         return Ok(None);
     }
     Ok(Some(GridPolygon { outer, inners }))
 }
 
-fn inners_cut(alloc: Global, window: Window, inners: &[Seq<Edge>]) -> Result<Seq<Seq<Grid>>, Memory>
+fn inners_cut(
+    alloc: Global,
+    window: Window,
+    inners: &[Seq<Edge>],
+    points: &mut Vec<Grid>,
+) -> Result<Seq<Seq<Grid>>, Memory>
     requires { All (λ inner. All (IsEdgeWithin axes.X (window.corner.x -ℤ pos window.buffer) (window.corner.x +ℤ pos (4096 + window.buffer))) inner) inners.now }
     ensures { IfOk result (λ kept. kept ≡ filter_map (ring_cut window.corner window.buffer false) inners.now) }
 {
     let mut kept = Seq::new(alloc);
     for inner in inners {
-        if let Some(ring) = ring_cut(alloc, window, false, inner.as_slice())? {
+        if let Some(ring) = ring_cut(alloc, window, false, inner.as_slice(), points)? {
             kept.push(ring)?;
         }
     }
@@ -156,15 +168,16 @@ fn ring_cut(
     window: Window,
     outer: bool,
     edges: &[Edge],
+    points: &mut Vec<Grid>,
 ) -> Result<Option<Seq<Grid>>, Memory>
     requires { All (IsEdgeWithin axes.X (window.corner.x -ℤ pos window.buffer) (window.corner.x +ℤ pos (4096 + window.buffer))) edges.now }
     ensures { IfOk result (λ kept. kept ≡ ring_cut window.corner window.buffer outer edges.now) }
 {
-    let mut points = Vec::new(alloc);
+    points.clear();
     for edge in edges {
-        add_points(window, *edge, &mut points)?;
+        add_points(window, *edge, points)?;
     }
-    clean_ring(alloc, &points, outer)
+    clean_ring(alloc, points, outer)
 }
 
 // Adds the points of an edge in a tile's row, counted from the tile's corner.

@@ -29,8 +29,9 @@ pub fn for_tiles<T: PieceTaker>(
     requires few { points_of shape.now < 2 ^ 27 }
     ensures { Gives T.taken T.steps T.stops take.old take.new (pieces_of z buffer shape.now) result }
 {
+    let mut points = Vec::new(alloc);
     match outline_of(alloc, shape) {
-        Ok(outline) => all_columns(alloc, outline, Tiling { z, buffer }, take),
+        Ok(outline) => all_columns(alloc, outline, Tiling { z, buffer }, &mut points, take),
         Err(_) => Err(ClipErr::Memory),
     }
 }

@@ -11,9 +11,9 @@ use tb_types::{Grid, Memory, Seq};
 pub fn ring_edges(alloc: Global, ring: &[Grid]) -> Result<Seq<Edge>, Memory>
     ensures { IfOk result (λ edges. edges ≡ ring_edges ring.now) }
 {
-    let mut edges = Seq::new(alloc);
+    let mut edges = Vec::with_capacity(alloc, ring.len())?;
     let Some((first, rest)) = ring.split_first() else {
-        return Ok(edges);
+        return Ok(Seq::from_vec(edges));
     };
     let mut p = *first;
     for q in rest {
@@ -21,7 +21,7 @@ pub fn ring_edges(alloc: Global, ring: &[Grid]) -> Result<Seq<Edge>, Memory>
         p = *q;
     }
     edges.push(ring_edge(p, *first))?;
-    Ok(edges)
+    Ok(Seq::from_vec(edges))
 }
 
 fn ring_edge(from: Grid, to: Grid) -> Edge
@@ -34,28 +34,33 @@ fn ring_edge(from: Grid, to: Grid) -> Edge
     }
 }
 
-// The edges of what is left of a ring in a strip.
-pub fn ring_in(alloc: Global, strip: Strip, edges: &[Edge]) -> Result<Seq<Edge>, Memory>
+// The edges of what is left of a ring in a strip. The list of points is one to work in.
+pub fn ring_in(
+    alloc: Global,
+    strip: Strip,
+    edges: &[Edge],
+    points: &mut Vec<Grid>,
+) -> Result<Seq<Edge>, Memory>
     ensures { IfOk result (λ left. left ≡ ring_in strip edges.now) }
 {
-    let points = points_in(alloc, strip, edges)?;
-    ring_edges(alloc, points.as_slice())
+    fill_points(strip, edges, points)?;
+    ring_edges(alloc, points)
 }
 
-// The points of a ring's edges in a strip.
-pub fn points_in(alloc: Global, strip: Strip, edges: &[Edge]) -> Result<Seq<Grid>, Memory>
-    ensures { IfOk result (λ points. points ≡ points_in strip edges.now) }
+// Fills a list with the points of a ring's edges in a strip.
+fn fill_points(strip: Strip, edges: &[Edge], points: &mut Vec<Grid>) -> Result<(), Memory>
+    ensures { OnOk result (points.new.items ≡ points_in strip edges.now) }
 {
-    let mut points = Seq::new(alloc);
+    points.clear();
     for edge in edges {
-        add_points(strip, *edge, &mut points)?;
+        add_points(strip, *edge, points)?;
     }
-    Ok(points)
+    Ok(())
 }
 
 // Adds the points of an edge in a strip.
-fn add_points(strip: Strip, edge: Edge, points: &mut Seq<Grid>) -> Result<(), Memory>
-    ensures { OnOk result (points.new ≡ points.old ++ edge_points strip edge.from edge.to) }
+fn add_points(strip: Strip, edge: Edge, points: &mut Vec<Grid>) -> Result<(), Memory>
+    ensures { OnOk result (points.new.items ≡ points.old.items ++ edge_points strip edge.from edge.to) }
 {
     if touches(strip, edge) {
         if !is_inside(strip, edge.from) {

@@ -1,44 +1,36 @@
-ghost use Rattle.std.specs.Prelude.{◌≡◌, ◌+◌, ◌*◌, ◌^◌, ◌<◌, ◌≤◌, pos, ◌+ℤ◌, ◌-ℤ◌, Option, Some, IfOk, IfSome};
-ghost use Rattle.strip_clip.specs.declared.axis.Axis.TheVariants as axes;
+ghost use Rattle.std.specs.Prelude.{◌≡◌, ◌+◌, ◌^◌, ◌<◌, ◌≤◌, Some, IfOk, IfSome};
 ghost use Rattle.strip_clip.specs.Cuts.{corner_of};
-ghost use Rattle.tile_clip.specs.Bounds.{IsWithin};
+ghost use Rattle.tile_clip.specs.Bounds.{IsInColumn};
 ghost use Rattle.tile_clip.specs.Given.{Gives};
 ghost use Rattle.tile_clip.specs.Outlines.{row_cut, row_piece};
 ghost use Rattle.tile_clip.specs.Steady.{like_piece};
-ghost use Rattle.tile_clip.specs.Pieces.{tile_at, with_tile, of_each, IsPiece};
+ghost use Rattle.tile_clip.specs.Pieces.{tile_at, with_tile, of_each, IsPiece, AreTakable};
 
-use crate::outline::{Outline, is_nothing, outline_halves};
+use crate::outline::{Outline, is_nothing, split};
 use crate::piece::row_cut;
-use crate::span::span_of;
+use crate::span::reached;
 use crate::steady::{copy_piece, is_steady};
 use crate::taker::{ClipErr, PieceTaker};
-use crate::tiling::{Tiling, end_after, first_from, side, strip_of};
+use crate::tiling::{Column, strip_of};
 use std::alloc::Global;
-use strip_clip::{Axis, Window};
-use tb_types::{Memory, Shape, TileXyz};
+use strip_clip::Axis;
+use tb_types::{Grid, Memory, Shape, TileXyz};
 
-// Gives the pieces of all rows of a column, by the outline of what is left in the column.
+// Gives the pieces of all rows of a column, by the outline of what is left in the column. The list of points is one to work
+// in.
 pub fn all_rows<T: PieceTaker>(
     alloc: Global,
     outline: Outline,
-    tiling: Tiling,
-    x: u32,
+    column: Column,
+    points: &mut Vec<Grid>,
     take: &mut T,
 ) -> Result<(), ClipErr<T::Stop>>
-    requires zoom { tiling.z ≤ 14 }
-    requires buffer { tiling.buffer ≤ 256 }
-    requires column { x < 2 ^ tiling.z }
-    requires within { IsWithin axes.X (pos (4096 * x) -ℤ pos tiling.buffer) (pos (4096 * x) +ℤ pos (4096 + tiling.buffer)) outline }
-    requires pieces { (y : _) → y < 2 ^ tiling.z → IfSome (row_cut (corner_of (tile_at tiling.z x y)) tiling.buffer outline) IsPiece }
-    ensures { Gives T.taken T.steps T.stops take.old take.new (of_each (row_piece tiling.z tiling.buffer x outline) 0 (2 ^ tiling.z)) result }
+    requires within { IsInColumn column.tiling.buffer column.x outline }
+    requires pieces { AreTakable (of_each (row_piece column.tiling.z column.tiling.buffer column.x outline) 0 (2 ^ column.tiling.z)) }
+    ensures { Gives T.taken T.steps T.stops take.old take.new (of_each (row_piece column.tiling.z column.tiling.buffer column.x outline) 0 (2 ^ column.tiling.z)) result }
 {
-    let span = span_of(Axis::Y, &outline);
-    let first = first_from(span.lo, tiling.buffer);
-    let end = end_after(span.hi, tiling.buffer, side(tiling.z));
-    if end <= first {
-        return Ok(());
-    }
-    rows(alloc, outline, tiling, x, first, end - first, take)
+    let part = reached(Axis::Y, column.tiling, &outline);
+    rows(alloc, outline, column, part.first, part.count, points, take)
 }
 
 // Gives the pieces of so many rows of a column, from a first one on, by the outline of what is left in the column.
@@ -47,41 +39,38 @@ pub fn all_rows<T: PieceTaker>(
 fn rows<T: PieceTaker>(
     alloc: Global,
     outline: Outline,
-    tiling: Tiling,
-    x: u32,
+    column: Column,
     first: u32,
     count: u32,
+    points: &mut Vec<Grid>,
     take: &mut T,
 ) -> Result<(), ClipErr<T::Stop>>
-    requires zoom { tiling.z ≤ 14 }
-    requires buffer { tiling.buffer ≤ 256 }
-    requires column { x < 2 ^ tiling.z }
-    requires some { 0 < count }
-    requires rows { first + count ≤ 2 ^ tiling.z }
-    requires within { IsWithin axes.X (pos (4096 * x) -ℤ pos tiling.buffer) (pos (4096 * x) +ℤ pos (4096 + tiling.buffer)) outline }
-    requires pieces { (y : _) → first ≤ y → y < first + count → IfSome (row_cut (corner_of (tile_at tiling.z x y)) tiling.buffer outline) IsPiece }
-    ensures { Gives T.taken T.steps T.stops take.old take.new (of_each (row_piece tiling.z tiling.buffer x outline) first count) result }
+    requires rows { first + count ≤ 2 ^ column.tiling.z }
+    requires within { IsInColumn column.tiling.buffer column.x outline }
+    requires pieces { AreTakable (of_each (row_piece column.tiling.z column.tiling.buffer column.x outline) first count) }
+    ensures { Gives T.taken T.steps T.stops take.old take.new (of_each (row_piece column.tiling.z column.tiling.buffer column.x outline) first count) result }
 {
+    if count == 0 {
+        return Ok(());
+    }
     if is_nothing(&outline) {
         return Ok(());
     }
-    if is_steady(strip_of(Axis::Y, tiling.buffer, first, count), &outline) {
-        return steady_rows(alloc, &outline, tiling, x, first, count, take);
+    if is_steady(strip_of(Axis::Y, column.tiling, first, count), &outline) {
+        return steady_rows(alloc, &outline, column, first, count, points, take);
     }
     if count == 1 {
-        return one_row(alloc, &outline, tiling, x, first, take);
+        return one_row(alloc, &outline, column, first, points, take);
     }
-    let half = count / 2;
-    let middle = first + half;
-    let rest = count - half;
-    let upper = strip_of(Axis::Y, tiling.buffer, first, half);
-    let lower = strip_of(Axis::Y, tiling.buffer, middle, rest);
-    let halves = match outline_halves(alloc, upper, lower, outline) {
+    let halves = match split(alloc, Axis::Y, column.tiling, first, count, outline) {
         Ok(halves) => halves,
         Err(_) => return Err(ClipErr::Memory),
     };
-    match rows(alloc, halves.first, tiling, x, first, half, take) {
-        Ok(()) => rows(alloc, halves.second, tiling, x, middle, rest, take),
+    let half = count / 2;
+    let middle = first + half;
+    let rest = count - half;
+    match rows(alloc, halves.first, column, first, half, points, take) {
+        Ok(()) => rows(alloc, halves.second, column, middle, rest, points, take),
         Err(e) => Err(e),
     }
 }
@@ -90,21 +79,18 @@ fn rows<T: PieceTaker>(
 fn one_row<T: PieceTaker>(
     alloc: Global,
     outline: &Outline,
-    tiling: Tiling,
-    x: u32,
+    column: Column,
     y: u32,
+    points: &mut Vec<Grid>,
     take: &mut T,
 ) -> Result<(), ClipErr<T::Stop>>
-    requires zoom { tiling.z ≤ 14 }
-    requires buffer { tiling.buffer ≤ 256 }
-    requires column { x < 2 ^ tiling.z }
-    requires row { y < 2 ^ tiling.z }
-    requires within { IsWithin axes.X (pos (4096 * x) -ℤ pos tiling.buffer) (pos (4096 * x) +ℤ pos (4096 + tiling.buffer)) outline.now }
-    requires piece { IfSome (row_cut (corner_of (tile_at tiling.z x y)) tiling.buffer outline.now) IsPiece }
-    ensures { Gives T.taken T.steps T.stops take.old take.new (row_piece tiling.z tiling.buffer x outline.now y) result }
+    requires row { y < 2 ^ column.tiling.z }
+    requires within { IsInColumn column.tiling.buffer column.x outline.now }
+    requires piece { IfSome (row_cut (corner_of (tile_at column.tiling.z column.x y)) column.tiling.buffer outline.now) IsPiece }
+    ensures { Gives T.taken T.steps T.stops take.old take.new (row_piece column.tiling.z column.tiling.buffer column.x outline.now y) result }
 {
-    match piece_at(alloc, outline, tiling, x, y) {
-        Ok(piece) => give(TileXyz { z: tiling.z, x, y }, piece, take),
+    match piece_at(alloc, outline, column, y, points) {
+        Ok(piece) => give(column.tile(y), piece, take),
         Err(_) => Err(ClipErr::Memory),
     }
 }
@@ -113,42 +99,35 @@ fn one_row<T: PieceTaker>(
 fn piece_at(
     alloc: Global,
     outline: &Outline,
-    tiling: Tiling,
-    x: u32,
+    column: Column,
     y: u32,
+    points: &mut Vec<Grid>,
 ) -> Result<Option<Shape>, Memory>
-    requires zoom { tiling.z ≤ 14 }
-    requires buffer { tiling.buffer ≤ 256 }
-    requires column { x < 2 ^ tiling.z }
-    requires row { y < 2 ^ tiling.z }
-    requires within { IsWithin axes.X (pos (4096 * x) -ℤ pos tiling.buffer) (pos (4096 * x) +ℤ pos (4096 + tiling.buffer)) outline.now }
-    ensures { IfOk result (λ piece. piece ≡ row_cut (corner_of (tile_at tiling.z x y)) tiling.buffer outline.now) }
+    requires row { y < 2 ^ column.tiling.z }
+    requires within { IsInColumn column.tiling.buffer column.x outline.now }
+    ensures { IfOk result (λ piece. piece ≡ row_cut (corner_of (tile_at column.tiling.z column.x y)) column.tiling.buffer outline.now) }
 {
-    let window = Window::of_tile(TileXyz { z: tiling.z, x, y }, tiling.buffer);
-    row_cut(alloc, window, outline)
+    row_cut(alloc, column.window(y), outline, points)
 }
 
 // Gives the pieces of so many rows of a column, which are all like that of the first of them.
 fn steady_rows<T: PieceTaker>(
     alloc: Global,
     outline: &Outline,
-    tiling: Tiling,
-    x: u32,
+    column: Column,
     first: u32,
     count: u32,
+    points: &mut Vec<Grid>,
     take: &mut T,
 ) -> Result<(), ClipErr<T::Stop>>
-    requires zoom { tiling.z ≤ 14 }
-    requires buffer { tiling.buffer ≤ 256 }
-    requires column { x < 2 ^ tiling.z }
     requires some { 0 < count }
-    requires rows { first + count ≤ 2 ^ tiling.z }
-    requires within { IsWithin axes.X (pos (4096 * x) -ℤ pos tiling.buffer) (pos (4096 * x) +ℤ pos (4096 + tiling.buffer)) outline.now }
-    requires piece { IfSome (row_cut (corner_of (tile_at tiling.z x first)) tiling.buffer outline.now) IsPiece }
-    ensures { Gives T.taken T.steps T.stops take.old take.new (of_each (like_piece tiling.z x (row_cut (corner_of (tile_at tiling.z x first)) tiling.buffer outline.now)) first count) result }
+    requires rows { first + count ≤ 2 ^ column.tiling.z }
+    requires within { IsInColumn column.tiling.buffer column.x outline.now }
+    requires piece { IfSome (row_cut (corner_of (tile_at column.tiling.z column.x first)) column.tiling.buffer outline.now) IsPiece }
+    ensures { Gives T.taken T.steps T.stops take.old take.new (of_each (like_piece column.tiling.z column.x (row_cut (corner_of (tile_at column.tiling.z column.x first)) column.tiling.buffer outline.now)) first count) result }
 {
-    match piece_at(alloc, outline, tiling, x, first) {
-        Ok(Some(piece)) => like_rows(alloc, &piece, tiling, x, first, count, take),
+    match piece_at(alloc, outline, column, first, points) {
+        Ok(Some(piece)) => like_rows(alloc, &piece, column, first, count, take),
         Ok(None) => Ok(()),
         Err(_) => Err(ClipErr::Memory),
     }
@@ -158,20 +137,17 @@ fn steady_rows<T: PieceTaker>(
 fn like_rows<T: PieceTaker>(
     alloc: Global,
     piece: &Shape,
-    tiling: Tiling,
-    x: u32,
+    column: Column,
     first: u32,
     count: u32,
     take: &mut T,
 ) -> Result<(), ClipErr<T::Stop>>
-    requires zoom { tiling.z ≤ 14 }
-    requires column { x < 2 ^ tiling.z }
-    requires rows { first + count ≤ 2 ^ tiling.z }
+    requires rows { first + count ≤ 2 ^ column.tiling.z }
     requires piece { IsPiece piece.now }
-    ensures { Gives T.taken T.steps T.stops take.old take.new (of_each (like_piece tiling.z x (Some piece.now)) first count) result }
+    ensures { Gives T.taken T.steps T.stops take.old take.new (of_each (like_piece column.tiling.z column.x (Some piece.now)) first count) result }
 {
     for y in first..first + count {
-        match like_row(alloc, piece, tiling, x, y, take) {
+        match give_copy(alloc, piece, column.tile(y), take) {
             Ok(()) => {}
             Err(e) => return Err(e),
         }
@@ -179,23 +155,21 @@ fn like_rows<T: PieceTaker>(
     Ok(())
 }
 
-// Gives a row of a column with a copy of a piece.
-fn like_row<T: PieceTaker>(
+// Gives a tile with a copy of a piece.
+fn give_copy<T: PieceTaker>(
     alloc: Global,
     piece: &Shape,
-    tiling: Tiling,
-    x: u32,
-    y: u32,
+    tile: TileXyz,
     take: &mut T,
 ) -> Result<(), ClipErr<T::Stop>>
-    requires zoom { tiling.z ≤ 14 }
-    requires column { x < 2 ^ tiling.z }
-    requires row { y < 2 ^ tiling.z }
+    requires zoom { tile.z ≤ 14 }
+    requires x { tile.x < 2 ^ tile.z }
+    requires y { tile.y < 2 ^ tile.z }
     requires piece { IsPiece piece.now }
-    ensures { Gives T.taken T.steps T.stops take.old take.new (like_piece tiling.z x (Some piece.now) y) result }
+    ensures { Gives T.taken T.steps T.stops take.old take.new (with_tile tile (Some piece.now)) result }
 {
     match copy_piece(alloc, piece) {
-        Ok(copy) => give(TileXyz { z: tiling.z, x, y }, Some(copy), take),
+        Ok(copy) => give(tile, Some(copy), take),
         Err(_) => Err(ClipErr::Memory),
     }
 }

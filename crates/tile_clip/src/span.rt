@@ -1,12 +1,43 @@
-ghost use Rattle.std.specs.Prelude.{All};
+ghost use Rattle.std.specs.Prelude.{◌≡◌, ◌+◌, ◌^◌, ◌<◌, ◌≤◌, ◌⊎◌, true, All};
 ghost use Rattle.strip_clip.specs.Axes.{along};
 ghost use Rattle.strip_clip.specs.Cuts.{IsBetween};
 ghost use Rattle.tile_clip.specs.Bounds.{IsEdgeWithin, AreRingsWithin, IsWithin, IsWider};
+ghost use Rattle.tile_clip.specs.Outlines.{touching, is_nothing, strip_of};
 
 use crate::edge::Edge;
 use crate::outline::{Outline, RingEdges};
+use crate::tiling::{Tiling, end_after, first_from, side};
 use strip_clip::Axis;
 use tb_types::{Grid, Seq};
+
+// The columns or rows that an outline reaches: the first of them, and how many there are.
+#[derive(Clone, Copy, Debug, PartialEq, Eq)]
+pub struct Reach {
+    pub first: u32,
+    pub count: u32,
+}
+
+// The columns or rows of a zoom that an outline reaches. It touches no other.
+pub fn reached(axis: Axis, tiling: Tiling, outline: &Outline) -> Reach
+    ensures within { result.first + result.count ≤ 2 ^ tiling.z }
+    ensures others { (at : _) → at < 2 ^ tiling.z → (at < result.first) ⊎ (result.first + result.count ≤ at) →
+        is_nothing (touching (strip_of axis tiling.buffer at 1) outline.now) ≡ true }
+{
+    let span = span_of(axis, outline);
+    let end = end_after(span.hi, tiling.buffer, side(tiling.z));
+    let first = least(first_from(span.lo, tiling.buffer), end);
+    Reach {
+        first,
+        count: end - first,
+    }
+}
+
+fn least(a: u32, b: u32) -> u32
+    ensures a { result ≤ a }
+    ensures b { result ≤ b }
+{
+    if a < b { a } else { b }
+}
 
 // The least and the greatest coordinate of something along an axis. Of nothing, the first is above the second.
 #[derive(Clone, Copy, Debug, PartialEq, Eq)]
@@ -16,7 +47,7 @@ pub struct Span {
 }
 
 // The span of an outline.
-pub fn span_of(axis: Axis, outline: &Outline) -> Span
+fn span_of(axis: Axis, outline: &Outline) -> Span
     ensures { IsWithin axis result.lo result.hi outline.now }
 {
     let nothing = Span {

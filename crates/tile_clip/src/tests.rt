@@ -84,7 +84,7 @@ fn points(alloc: Global, places: &[(i32, i32)]) -> Result<Seq<Grid>, Memory>
 
 // A line of one path.
 pub(crate) fn line(alloc: Global, places: &[(i32, i32)]) -> Result<Shape, Memory>
-    requires { length places.now ≤ 10000 }
+    requires { length places.now ≤ 100000 }
     ensures { IfOk result (λ shape. points_of shape < 2 ^ 27) }
 {
     let path = points(alloc, places)?;
@@ -94,10 +94,14 @@ pub(crate) fn line(alloc: Global, places: &[(i32, i32)]) -> Result<Shape, Memory
 }
 
 // A polygon with a hole.
-fn polygon(alloc: Global, outer: &[(i32, i32)], hole: &[(i32, i32)]) -> Result<GridPolygon, Memory>
-    requires outer { length outer.now ≤ 10000 }
+pub(crate) fn polygon(
+    alloc: Global,
+    outer: &[(i32, i32)],
+    hole: &[(i32, i32)],
+) -> Result<GridPolygon, Memory>
+    requires outer { length outer.now ≤ 100000 }
     requires hole { length hole.now ≤ 10000 }
-    ensures { IfOk result (λ polygon. polygon_points polygon ≤ 20000) }
+    ensures { IfOk result (λ polygon. polygon_points polygon ≤ 110000) }
 {
     let outer = points(alloc, outer)?;
     let hole = points(alloc, hole)?;
@@ -112,7 +116,7 @@ pub(crate) fn area(
     outer: &[(i32, i32)],
     hole: &[(i32, i32)],
 ) -> Result<Shape, Memory>
-    requires outer { length outer.now ≤ 10000 }
+    requires outer { length outer.now ≤ 100000 }
     requires hole { length hole.now ≤ 10000 }
     ensures { IfOk result (λ shape. points_of shape < 2 ^ 27) }
 {
@@ -226,6 +230,11 @@ fn a_taker_that_refuses_has_the_pieces_before(rt: HostRuntime) -> Result<(), Mem
     let answer = for_tiles(alloc, &whole, 2, 0, &mut kept);
     assert!(rt; matches!(answer, Err(ClipErr::Taker(Full::Room))));
     assert!(rt; kept.pieces.as_slice().len() == 3);
+    let tall = area(alloc, &[(9, -99), (99, -99), (99, 99999), (9, 99999)], &[])?;
+    kept.room = 7;
+    let answer = for_tiles(alloc, &tall, 4, 0, &mut kept);
+    assert!(rt; matches!(answer, Err(ClipErr::Taker(Full::Room))));
+    assert!(rt; kept.pieces.as_slice().len() == 10);
     Ok(())
 }
 
@@ -351,7 +360,8 @@ fn drawn_shapes_have_the_cuts_of_all_tiles(rt: HostRuntime) -> Result<(), Memory
     Ok(())
 }
 
-// A hole that contains a tile has no edge near it; a point stands in each tile whose buffer has it.
+// A hole that contains a tile has no edge near it; a point stands in each tile whose buffer has it. A square and a hole may
+// lie on the bounds of tiles.
 #[test]
 fn holes_and_points_have_the_cuts_of_all_tiles(rt: HostRuntime) -> Result<(), Memory> {
     let alloc = rt.alloc();
@@ -359,6 +369,10 @@ fn holes_and_points_have_the_cuts_of_all_tiles(rt: HostRuntime) -> Result<(), Me
     let hole = [(3000, 3000), (9000, 3000), (9000, 13000), (3000, 13000)];
     assert!(rt; is_area_cut(alloc, &outer, &hole, 64)?);
     assert!(rt; is_area_cut(alloc, &outer, &hole, 0)?);
+    let tile = [(4096, 4096), (8192, 4096), (8192, 8192), (4096, 8192)];
+    let nine = [(0, 0), (12288, 0), (12288, 12288), (0, 12288)];
+    assert!(rt; is_area_cut(alloc, &nine, &tile, 0)?);
+    assert!(rt; is_area_cut(alloc, &nine, &tile, 64)?);
     let island = [(5000, 5000), (7000, 5000), (7000, 12000), (5000, 12000)];
     assert!(rt; are_two_cut(alloc, &island, &outer, &hole, 64)?);
     assert!(rt; are_two_cut(alloc, &outer, &outer, &outer, 64)?);

@@ -1,26 +1,59 @@
 ghost use Rattle.std.specs.Prelude.{◌≡◌, ◌+◌, ◌*◌, ◌^◌, ◌<◌, ◌≤◌, pos, ◌+ℤ◌, ◌-ℤ◌, ◌<ℤ◌};
+ghost use Rattle.strip_clip.specs.Cuts.{corner_of};
 ghost use Rattle.tile_clip.specs.Outlines.{strip_of};
+ghost use Rattle.tile_clip.specs.Pieces.{tile_at};
 
-use strip_clip::{Axis, Strip};
-use tb_types::EXTENT;
+use strip_clip::{Axis, Strip, Window};
+use tb_types::{EXTENT, TileXyz};
 
-// A zoom, and how many units around each of its tiles belong to the tile too.
+// A zoom of at most 14, and how many units around each of its tiles, at most 256, belong to the tile too.
 #[derive(Clone, Copy, Debug, PartialEq, Eq)]
 pub struct Tiling {
     pub z: u8,
     pub buffer: u32,
+    ghost zoom: { z ≤ 14 },
+    ghost narrow: { buffer ≤ 256 },
+}
+
+// A column of a zoom's tiles.
+#[derive(Clone, Copy, Debug, PartialEq, Eq)]
+pub struct Column {
+    pub tiling: Tiling,
+    pub x: u32,
+    ghost on_grid: { x < 2 ^ tiling.z },
+}
+
+impl Column {
+    // The tile in a row.
+    pub fn tile(self, y: u32) -> TileXyz
+        ensures { result ≡ tile_at self.tiling.z self.x y }
+    {
+        TileXyz {
+            z: self.tiling.z,
+            x: self.x,
+            y,
+        }
+    }
+
+    // The window of the tile in a row.
+    pub fn window(self, y: u32) -> Window
+        requires { y < 2 ^ self.tiling.z }
+        ensures corner { result.corner ≡ corner_of (tile_at self.tiling.z self.x y) }
+        ensures buffer { result.buffer ≡ self.tiling.buffer }
+    {
+        Window::of_tile(self.tile(y), self.tiling.buffer)
+    }
 }
 
 // The strip of so many columns or rows from a first one on, with the buffer.
-pub fn strip_of(axis: Axis, buffer: u32, first: u32, count: u32) -> Strip
-    requires buffer { buffer ≤ 256 }
-    requires within { first + count ≤ 2 ^ 14 }
-    ensures { result ≡ strip_of axis buffer first count }
+pub fn strip_of(axis: Axis, tiling: Tiling, first: u32, count: u32) -> Strip
+    requires { first + count ≤ 2 ^ tiling.z }
+    ensures { result ≡ strip_of axis tiling.buffer first count }
 {
     Strip {
         axis,
-        lo: low(first, buffer),
-        hi: high(first + count, buffer),
+        lo: low(first, tiling.buffer),
+        hi: high(first + count, tiling.buffer),
     }
 }
 

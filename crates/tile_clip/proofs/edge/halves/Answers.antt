@@ -6,12 +6,6 @@ use Rattle.tile_clip.proofs.edge.halves.Goals as goal
 
 pub returns-then-all_touch : goal.returns-then-all_touch
 returns-then-all_touch c =
-    let s = c.args.first in
-    let whole = ap (all_touch s) (sym c.as_slice.ensures) ∙ sym c.all_touch.ensures ∙ c.if-all_touch.true in
-    both_are _ _ _ _ (sym (all_kept s c.args.edges whole)) (c.in_ok-in_second.ensures ∙ ap (filter (touches c.args.second)) c.as_slice-then-all_touch.ensures)
-
-pub returns-then-all_touch-2 : goal.returns-then-all_touch-2
-returns-then-all_touch-2 c =
     let s = c.args.second in
-    let whole = ap (all_touch s) (sym c.as_slice-3.ensures) ∙ sym c.all_touch-2.ensures ∙ c.if-all_touch-2.true in
-    both_are _ _ _ _ (c.in_ok-in_first.ensures ∙ ap (filter (touches c.args.first)) c.as_slice-2.ensures) (sym (all_kept s c.args.edges whole))
+    let whole = ap (all_touch s) (sym c.as_slice.ensures) ∙ sym c.all_touch.ensures ∙ c.if-all_touch.true in
+    both_are _ _ _ _ (c.in_ok-in_first.ensures ∙ ap (filter (touches c.args.first)) c.as_slice-then-all_touch.ensures) (sym (all_kept s c.args.edges whole))

@@ -1,0 +1,12 @@
+pub mod AddedSteps
+pub mod Appended
+pub mod Held
+pub mod ItemLaws
+pub mod ItemLengths
+pub mod ItemParts
+pub mod ItemWhole
+pub mod Limit
+pub mod Loops
+pub mod Order
+pub mod Points
+pub mod WorkedItems

@@ -1,0 +1,9 @@
+pub mod Added
+pub mod Apart
+pub mod Appending
+pub mod Entry
+pub mod Index
+pub mod ItemReading
+pub mod Lengths
+pub mod WorkedItems
+pub mod Writing

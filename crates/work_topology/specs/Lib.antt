@@ -1,0 +1,12 @@
+pub mod Blocks
+pub mod Bodies
+pub mod Ends
+pub mod Job
+pub mod Lane
+pub mod Lists
+pub mod Objects
+pub mod Parts
+pub mod Spread
+pub mod Start
+pub mod Sums
+pub mod Told
