@@ -120,6 +120,7 @@ one-more (x ∷ xs) y one same = go xs one
   where
     is : tile_of y ≡ tile_of x
     is = grind (arith, nat_tests)
+
     go : (zs : List RunItem) → AllByRecursion (λ (z : RunItem). tile_of z ≡ tile_of x) zs → AllByRecursion (λ (z : RunItem). tile_of z ≡ tile_of x) (zs ++ y ∷ [])
     go [] h = (is, tt)
     go (z ∷ zs) h = (h.0, go zs h.1)
@@ -213,11 +214,14 @@ module _ (names : List (List ℕ)) (sorted : List RunItem) (old : WriterSeen) (b
     where
       parts-all : grouped_by tile_of sorted ≡ w.done ++ g ∷ []
       parts-all = parts-more (subst (OnFirst (λ (y : RunItem). tile_of y ≢ tile_of x)) (sym none) tt) ∙ (ap (λ ys. (w.done ++ g ∷ []) ++ grouped_by tile_of ys) none ∙ append-nil (w.done ++ g ∷ []))
+
       other : OnFirst (λ (y : RunItem). tile_of y ≢ tile_of x) rest
       other = subst (OnFirst (λ (y : RunItem). tile_of y ≢ tile_of x)) (sym none) tt
+
       on : {P : Type 0} (s : Result ⊤ TileStop) → (s ≡ Ok tt → P) → OnOk s P
       on (Ok u) f = f refl
       on (Err e) f = tt
+
       all-if : (s : Result ⊤ TileStop) → r ≡ s → TilesAnswers names sorted old new before after r
       all-if s is = record {
         small = on r (λ ok. ap (λ gs. has_giant (tiles_from names gs)) parts-all ∙ small-more names w.done g w.small (on-ok a.short ok));
@@ -276,6 +280,7 @@ module _ (names : List (List ℕ)) (sorted : List RunItem) (old : WriterSeen) (b
           subst (λ l. Walk names sorted old before (l ++ y ∷ []) later new after) (sym same.0)
           (subst (λ n. Walk names sorted old before (group ++ y ∷ []) later n after) (sym same.1)
           (subst (λ s. Walk names sorted old before (group ++ y ∷ []) later writer s) (sym same.2) (walk-joins names sorted old before group y later writer now b w)))
+
       closed-end : (items : List RunItem) → Walk names sorted old before items (y ∷ later) writer now → begins_tile items y ≡ true → OnOk r (left ≡ []) → TileAnswers writer new (tile_from names (first_tile items, items)) now after r
           → Walk names sorted old before (left ++ y ∷ []) later new after
       closed-end [] v b l a = let no : false ≡ true = b in absurd cc
@@ -283,6 +288,7 @@ module _ (names : List (List ℕ)) (sorted : List RunItem) (old : WriterSeen) (b
           let empty : left ≡ [] = subst (λ (s : Result ⊤ TileStop). OnOk s (left ≡ [])) ok l in
           subst (λ l. Walk names sorted old before (l ++ y ∷ []) later new after) (sym empty)
           (walk-joins names sorted old before [] y later new after refl (walk-closes names sorted old before x xs (y ∷ later) writer new now after v r a y later refl (begins-other x xs b) ok))
+
       go : (b : Bool) → begins_tile group y ≡ b → ClosesIf b names group left writer new now after r → Walk names sorted old before (left ++ y ∷ []) later new after
       go false e k = same-end (k.1, k.2, k.3) e
       go true e k = closed-end group w e k.0 k.1
@@ -305,6 +311,7 @@ module _ (names : List (List ℕ)) (sorted : List RunItem) (old : WriterSeen) (b
             giant = giant-there names sorted old before x xs (y ∷ later) writer new now after v (Err stop) a (λ same. grind (arith, nat_tests));
             spool = spool-there names sorted old before x xs (y ∷ later) writer new now after v (Err stop) a;
           }
+
       go : (b : Bool) → begins_tile group y ≡ b → ClosesIf b names group left writer new now after (Err stop) → TilesAnswers names sorted old new before after (Err stop)
       go false e k = let no : Err stop ≡ Ok tt = k.0 in absurd cc
       go true e k = ended group w e k.1

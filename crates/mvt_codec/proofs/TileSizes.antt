@@ -175,6 +175,7 @@ parted number (item ∷ items) =
                 rw (e, f, g) (omega (arith, sum_by-cons weight item.row (rows_of_layer number items), sum_by-cons item_weight item (later number items), rest))
           ]
     ]
+
 later_len : (number : ℕ) (items : List RunItem) → sum_by item_weight (later number items) ≤ sum_by item_weight items
 later_len number [] = omega arith
 later_len number (item ∷ items) = by (nat_le number item.key.layer) (later_len number items)

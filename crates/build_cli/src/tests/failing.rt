@@ -115,13 +115,20 @@ fn spool_faults_are_told(rt: HostRuntime) -> Result<(), Fail> {
         };
         let ran = nodes(alloc, "amenity", CAFE, &faults)?;
         let fails = call < SPOOL_CALLS;
-        let line = if fails { b"spill: spool\n".as_slice() } else { SUCCESS };
+        let line = if fails {
+            b"spill: spool\n".as_slice()
+        } else {
+            SUCCESS
+        };
         assert!(rt; ran.status == if fails { 8 } else { 0 }, "call {call}");
         assert!(rt; ran.console.bytes() == line, "call {call}");
         // Nothing is appended before all tiles stand in the spool, and then a prefix.
         let len = ran.archive.bytes().len();
         assert!(rt; call + 1 >= SPOOL_CALLS || len == 0, "call {call}");
-        assert!(rt; whole.bytes().starts_with(ran.archive.bytes()), "call {call}");
+        assert!(rt;
+            whole.bytes().starts_with(ran.archive.bytes()),
+            "call {call}"
+        );
     }
     Ok(())
 }

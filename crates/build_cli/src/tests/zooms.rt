@@ -40,8 +40,7 @@ fn buffers_reach_into_neighbours(rt: HostRuntime) -> Result<(), Fail> {
     let alloc = rt.alloc();
     // A node 60 units east of the middle of zoom 1, and one at the north pole on the antimeridian.
     let east = b"\x08\x02\x12\x01\x01\x1a\x01\x02\x40\x00\x48\x80\xd4\x96\x19";
-    let pole =
-        b"\x08\x02\x12\x01\x01\x1a\x01\x02\x40\x80\xa4\xa7\xda\x06\x48\x80\xc8\xce\xb4\x0d";
+    let pole = b"\x08\x02\x12\x01\x01\x1a\x01\x02\x40\x80\xa4\xa7\xda\x06\x48\x80\xc8\xce\xb4\x0d";
     // The profile, the node, how the line begins, and the last tile: that of column 1 and row 0.
     let cases: [(&[u8], &[u8], &[u8], &[u8]); 3] = [
         (
