@@ -57,3 +57,17 @@ fn a_set_has_the_ids_that_were_put(rt: HostRuntime) -> Result<(), Fail> {
     }
     Ok(())
 }
+
+/// A build on one lane has no shards: its set is that of one list of ids.
+#[test]
+fn one_list_becomes_a_set(rt: HostRuntime) -> Result<(), Fail> {
+    let mut entries = Vec::new(rt.alloc());
+    for id in [7, -7, 71, 7] {
+        entries.push((OsmId(id), Unit))?;
+    }
+    let nodes = NeededNodes::from_map(ShardMap::joined(entries));
+    for (id, stands) in [(7, true), (-7, true), (71, true), (8, false), (-71, false)] {
+        assert_eq!(rt; nodes.has(OsmId(id)), stands, "{id}");
+    }
+    Ok(())
+}

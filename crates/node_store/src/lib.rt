@@ -19,3 +19,5 @@ pub use worked::worked_places;
 
 #[cfg(test)]
 mod tests;
+#[cfg(test)]
+mod thread_tests;

@@ -35,7 +35,7 @@ fn put_by_two<V: Join>(alloc: Global, one: V, other: V) -> Result<Option<ShardMa
 }
 
 /// A node or a way by its place, and the x of its point, if it has one.
-type Row = (u32, u32, Option<u32>);
+pub(crate) type Row = (u32, u32, Option<u32>);
 
 /// Two of one id, and the one that stays.
 const CASES: [(Row, Row, Row); 6] = [
@@ -51,7 +51,7 @@ const CASES: [(Row, Row, Row); 6] = [
     ((1, 0, Some(5)), (1, 0, Some(6)), (1, 0, Some(6))),
 ];
 
-fn node(row: Row) -> Located {
+pub(crate) fn node(row: Row) -> Located {
     Located {
         place: Place {
             block: row.0,

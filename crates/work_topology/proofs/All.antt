@@ -1,6 +1,5 @@
 -- All lanes together, over whatever lists they are: the cases of a list with a first element.
-use Rattle.std.proofs.Common.{◌≡◌, ◌∙◌, ℕ, ◌<◌, List, [], ◌∷◌, ◌++◌, drop, length, map, Result, Ok, Err, Option, Some, None, ap, sym, refl, subst, arith}
-use Rattle.std.specs.Prelude.{⊤}
+use Rattle.std.proofs.Common.{◌≡◌, ◌∙◌, ℕ, ◌<◌, List, [], ◌∷◌, ◌++◌, drop, length, map, Ok, Err, None, ap, sym, subst, arith}
 use Rattle.std.specs.List.{flat_map, sum_by}
 use mathlib.Core.Option.{some, some-injective}
 use lib.ListN.{get_elem?}
@@ -18,11 +17,11 @@ use Rattle.work_topology.specs.Job.{GoesOn}
 use Rattle.work_topology.specs.Lane.{Scene, Leaving}
 use Rattle.work_topology.specs.Told.{IsFirstTold}
 use Rattle.work_topology.specs.Ends.{PassCause, LanesStay}
-use Rattle.work_topology.specs.Parts.{IsDealt, AreGathered, PopsAlso, WorksLeft, WorksOnFirst, EmptiesQueue, GivesLeft, HaveWorked, FirstFits}
-use Rattle.work_topology.proofs.Pairs.{inside, there}
-use Rattle.work_topology.proofs.Bags.{bag_has, in_front, of_all, map_at, at_map}
+use Rattle.work_topology.specs.Parts.{IsDealt, AreGathered, WorksLeft, WorksOnFirst, GivesLeft, HaveWorked, FirstFits}
+use Rattle.work_topology.proofs.Pairs.{there}
+use Rattle.work_topology.proofs.Bags.{in_front, of_all, map_at, at_map}
 use Rattle.work_topology.proofs.Runs.{HaveRun}
-use Rattle.work_topology.proofs.Whole.{is_one, runs_cause, all_stay}
+use Rattle.work_topology.proofs.Whole.{runs_cause}
 use Rattle.work_topology.proofs.Working.{all_worked, well_of}
 use Rattle.work_topology.proofs.Leaves.{left_stay, left_cause}
 

@@ -1,5 +1,5 @@
 -- Why a pass ends early: the trouble that is told, and what it says of all lanes.
-use Rattle.std.proofs.Common.{◌≡◌, ◌∙◌, ◌⊎◌, inl, inr, ⊎_elim, ℕ, List, [], ◌∷◌, ap, sym, refl, subst}
+use Rattle.std.proofs.Common.{◌≡◌, ◌∙◌, ◌⊎◌, ⊎_elim, ℕ, List, ap, refl}
 use Rattle.std.specs.declared.cmp.Ordering.TheVariants.{Less}
 use mathlib.Core.Option.{some}
 use lib.ListN.{get_elem?}
@@ -7,7 +7,6 @@ use Rattle.tb_types.specs.Orders.{whom_order}
 use Rattle.tb_types.specs.declared.trouble.Trouble.{Trouble}
 use Rattle.tb_types.specs.declared.trouble.Trouble.TheVariants as troubles
 use Rattle.tb_types.specs.declared.trouble.Whom.{Whom}
-use Rattle.tb_types.specs.declared.trouble.Whom.TheVariants as whoms
 use Rattle.tb_outside.specs.declared.lane.Lane.{Lane}
 use Rattle.tb_outside.specs.Source.{SourceSeen}
 use Rattle.tb_outside.specs.Spill.{SpillSeen}

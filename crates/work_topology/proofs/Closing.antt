@@ -1,7 +1,7 @@
 -- The end of each lane's part: what it leaves, and why it is refused.
-use Rattle.std.proofs.Common.{◌≡◌, ◌∙◌, inl, inr, ℕ, zero, suc, ◌+◌, ◌<◌, ◌≤◌, List, [], ◌∷◌, length, Option, Some, None, ap, sym, refl, subst, arith}
+use Rattle.std.proofs.Common.{◌≡◌, ◌∙◌, inl, inr, ℕ, ◌+◌, ◌<◌, ◌≤◌, List, length, Option, Some, None, ap, subst, arith}
 use Rattle.std.specs.Prelude.{MatchOption, IfSome}
-use mathlib.Core.Option.{some, some-injective, some-ne-none}
+use mathlib.Core.Option.{some}
 use lib.ListN.{get_elem?}
 use Rattle.tb_types.specs.declared.trouble.Trouble.{Trouble}
 use Rattle.tb_outside.specs.declared.lane.Lane.{Lane}
@@ -11,14 +11,13 @@ use Rattle.pbf_blobs.specs.declared.block.BlockAt.{BlockAt}
 use Rattle.claim_desk.specs.Facts.{SeatFacts}
 use Rattle.batch_queue.specs.Facts.{PassFacts}
 use Rattle.work_topology.specs.declared.post.Report.{Report}
-use Rattle.work_topology.specs.Lists.{Each}
 use Rattle.work_topology.specs.Spread.{AllReady, AllRun}
-use Rattle.work_topology.specs.Objects.{Objects, objects_of, AreUncounted}
+use Rattle.work_topology.specs.Objects.{objects_of, AreUncounted}
 use Rattle.work_topology.specs.Job.{Meaning, JobCause, NeverChanges, GoesOn}
-use Rattle.work_topology.specs.Lane.{LaneCause, EndsPart}
+use Rattle.work_topology.specs.Lane.{EndsPart}
 use Rattle.work_topology.specs.Told.{IsFirstTold, NotBefore}
 use Rattle.work_topology.specs.Ends.{IsChanged, IsUncounted, PassCause, LaneStays, LanesStay}
-use Rattle.work_topology.specs.Parts.{HasWorked, HaveWorked}
+use Rattle.work_topology.specs.Parts.{HaveWorked}
 use Rattle.work_topology.proofs.Pairs.{inside, there}
 use Rattle.work_topology.proofs.Steps.{of_job}
 use Rattle.work_topology.proofs.Causes.{Behind, pass_cause}

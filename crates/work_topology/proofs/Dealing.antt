@@ -1,18 +1,15 @@
 -- Seats and passes are dealt and gathered, one post more.
-use Rattle.std.proofs.Common.{◌≡◌, ◌∙◌, ℕ, zero, suc, ◌+◌, ◌-◌, ◌<◌, ◌≤◌, Bool, true, false, true≢false, List, [], ◌∷◌, ◌++◌, length, length-append, take, drop, map, Option, Some, None, ap, sym, refl, subst, arith, append_assoc}
-use Rattle.std.specs.Prelude.{nat_le, nat_lt, if◌then◌else◌, slice_index_or}
-use Rattle.std.specs.List.{flat_map}
+use Rattle.std.proofs.Common.{◌≡◌, ◌∙◌, ℕ, suc, ◌+◌, ◌-◌, ◌<◌, Bool, true, false, true≢false, List, [], ◌∷◌, ◌++◌, length, length-append, take, drop, map, Option, Some, None, ap, sym, refl, subst, arith, append_assoc}
+use Rattle.std.specs.Prelude.{nat_lt, if◌then◌else◌, slice_index_or}
 use Rattle.std.proofs.lemmas.List.{append-nil, map_push, flat_map_more}
 use Rattle.std.proofs.lemmas.Bool.Decides.{nat_tests}
-use mathlib.Core.Option.{some}
 use lib.ListN.{get_elem?}
-use Rattle.claim_desk.specs.Facts as desks
-use Rattle.claim_desk.specs.Facts.{DeskFacts, SeatFacts, IsSeatOf, has_ended, later}
-use Rattle.batch_queue.specs.Facts.{QueueFacts, PassFacts, IsPassHere, joins_in_order}
+use Rattle.claim_desk.specs.Facts.{DeskFacts, SeatFacts, has_ended, later}
+use Rattle.batch_queue.specs.Facts.{QueueFacts, PassFacts}
 use Rattle.work_topology.specs.declared.post.Report.{Report}
 use Rattle.work_topology.specs.declared.post.Post.{Post}
-use Rattle.work_topology.specs.Lists.{Each, Paired}
-use Rattle.work_topology.specs.Parts.{first_seat, first_pass, IsDealt, Leads, OfFirst, AreDealt, DealsRest, AreTogether, AreGathered, GathersRest}
+use Rattle.work_topology.specs.Lists.{Each}
+use Rattle.work_topology.specs.Parts.{first_seat, first_pass, IsDealt, AreDealt, DealsRest, AreTogether, AreGathered, GathersRest}
 use Rattle.work_topology.proofs.Steps.{paired_push}
 
 -- a list's first element, and the rest

@@ -1,14 +1,13 @@
 -- What a pass gives that ended well, from what all lanes did.
-use Rattle.std.proofs.Common.{◌≡◌, ◌∙◌, ℕ, zero, suc, ◌+◌, ◌<◌, ◌≤◌, ◌^◌, true, false, List, [], ◌∷◌, ◌++◌, length, length-append, map, take, Option, Some, None, ap, sym, refl, subst, arith}
-use Rattle.std.specs.Prelude.{MatchOption, slice_index_or, min}
+use Rattle.std.proofs.Common.{◌≡◌, ◌∙◌, ℕ, suc, ◌+◌, ◌<◌, ◌≤◌, List, [], ◌∷◌, ◌++◌, length, map, None, ap, sym, refl, subst, arith}
+use Rattle.std.specs.Prelude.{MatchOption, slice_index_or}
 use Rattle.std.specs.Bool.{◌==◌}
-use Rattle.std.specs.List.{sum_by, flat_map, concat, filter, position_or_len}
+use Rattle.std.specs.List.{sum_by, flat_map, concat}
 use Rattle.std.specs.Option.{option_map}
 use Rattle.std.proofs.lemmas.Bool.{eq-eqb, ne_eqb}
 use Rattle.std.proofs.lemmas.List.{length-map, take_all}
-use Rattle.std.proofs.lemmas.List.Concat.{concat_is}
 use Rattle.std.proofs.lemmas.List.Sums.{position_or_len_is}
-use mathlib.Core.Option.{some, some-injective, some-ne-none}
+use mathlib.Core.Option.{some, some-injective}
 use lib.ListN.{get_elem?}
 use Rattle.tb_types.specs.Bags.{IsEachOnce, IsSameBag, below}
 use Rattle.tb_types.specs.Needs.{block_need}
@@ -22,24 +21,24 @@ use Rattle.claim_desk.specs.Facts as desks
 use Rattle.batch_queue.specs.Facts.{PassFacts}
 use Rattle.batch_queue.specs.Facts as queues
 use Rattle.batch_queue.specs.declared.entry.Entry.{Entry}
-use Rattle.flow_core.specs.Settled.{Settled, list_at}
+use Rattle.flow_core.specs.Settled.{list_at}
 use Rattle.work_topology.specs.declared.ends.Done.{Done}
 use Rattle.work_topology.specs.declared.ends.Ends.{Ends}
 use Rattle.work_topology.specs.declared.post.Report.{Report}
 use Rattle.work_topology.specs.Lists.{Each, Paired}
 use Rattle.work_topology.specs.Spread.{AllRun}
 use Rattle.work_topology.specs.Start.{AreStarted}
-use Rattle.work_topology.specs.Sums.{ArePlaces, SumsUp, AreEnds}
-use Rattle.work_topology.specs.Blocks.{Ascend, IsLoaded, IsPlaceOf, block_at, number_at, numbers_at, place_of, load_at}
-use Rattle.work_topology.specs.Objects.{Objects, objects_of, AreUncounted}
-use Rattle.work_topology.specs.Job.{Meaning, Worked, JobCause, NeverChanges}
+use Rattle.work_topology.specs.Sums.{ArePlaces, AreEnds}
+use Rattle.work_topology.specs.Blocks.{Ascend, IsLoaded, block_at, number_at, numbers_at, place_of, load_at}
+use Rattle.work_topology.specs.Objects.{objects_of, AreUncounted}
+use Rattle.work_topology.specs.Job.{Meaning, JobCause, NeverChanges}
 use Rattle.work_topology.specs.Lane.{IsDone, EndsPart}
 use Rattle.work_topology.specs.Parts.{HasWorked, HaveWorked}
 use Rattle.work_topology.specs.Ends.{IsGiven, IsGranted, LaneEnds, PassEnds, done_by, places_done}
 use Rattle.work_topology.proofs.Pairs.{inside, there, paired_len, paired_at}
 use Rattle.work_topology.proofs.Steps.{at_place, paired_each}
-use Rattle.work_topology.proofs.Bags.{bag_has, of_some, of_all, at_map, map_at, flat_map_each, flat_map_map}
-use Rattle.work_topology.proofs.Beside.{sum_map, same_length, length-below, lists_same, maps_same, paired_map, concat_map, concat_flat, map_itself, map_each, map_map, at_below, map_below, Own, filter_own, paired_flat}
+use Rattle.work_topology.proofs.Bags.{bag_has, of_some, of_all, at_map, map_at}
+use Rattle.work_topology.proofs.Beside.{sum_map, same_length, length-below, lists_same, maps_same, paired_map, concat_map, concat_flat, map_itself, map_each, map_map, at_below, map_below, filter_own, paired_flat}
 
 -- the place of a block's own number
 pub place_is : (blocks : List BlockAt) (k : ℕ) → Ascend blocks → k < length blocks → place_of blocks (number_at blocks k) ≡ k

@@ -1,5 +1,5 @@
 -- The first lane and its report.
-use Rattle.std.proofs.Common.{◌≡◌, ℕ, ◌<◌, List, [], ◌∷◌, length, get_or, Result, refl, arith}
+use Rattle.std.proofs.Common.{◌<◌, List, [], ◌∷◌, length, get_or, Result, refl, arith}
 use Rattle.std.specs.Prelude.{⊤, slice_set}
 use Rattle.tb_types.specs.declared.trouble.Trouble.{Trouble}
 use Rattle.tb_outside.specs.declared.lane.Lane.{Lane}

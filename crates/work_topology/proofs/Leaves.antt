@@ -1,6 +1,5 @@
 -- All lanes where nothing was begun, and where the work on what was left ended early.
-use Rattle.std.proofs.Common.{◌≡◌, ◌∙◌, inl, inr, ℕ, zero, suc, ◌+◌, ◌<◌, ◌≤◌, List, [], ◌∷◌, ◌++◌, length, map, set, Result, Ok, Err, Option, Some, None, ap, sym, refl, subst, arith}
-use Rattle.std.specs.Prelude.{⊤, MatchOption}
+use Rattle.std.proofs.Common.{◌≡◌, ◌∙◌, inl, inr, ℕ, zero, suc, List, [], ◌∷◌, ◌++◌, Err, None, ap, sym, refl, subst, arith}
 use Rattle.std.specs.List.{flat_map, sum_by}
 use mathlib.Core.Option.{some, some-injective, some-ne-none}
 use lib.ListN.{get_elem?}
@@ -16,13 +15,13 @@ use Rattle.batch_queue.specs.declared.entry.Entry.{Entry}
 use Rattle.work_topology.specs.declared.post.Report.{Report}
 use Rattle.work_topology.specs.declared.post.Post.{Post}
 use Rattle.work_topology.specs.Lists.{Each}
-use Rattle.work_topology.specs.Objects.{Objects, objects_of}
+use Rattle.work_topology.specs.Objects.{objects_of}
 use Rattle.work_topology.specs.Job.{Meaning, SomeChanges, GoesOn}
-use Rattle.work_topology.specs.Lane.{Scene, Leaving, LaneCause, AllPushed, HasSeenEnd}
+use Rattle.work_topology.specs.Lane.{Scene, Leaving, LaneCause, AllPushed}
 use Rattle.work_topology.specs.Ends.{IsChanged, IsUncounted, PassCause, LaneStays, LanesStay}
 use Rattle.work_topology.specs.Parts.{PopsAlso, WorksLeft, GivesLeft}
 use Rattle.work_topology.proofs.Pairs.{inside, there}
-use Rattle.work_topology.proofs.Bags.{bag_has, in_front, in_rear, of_all}
+use Rattle.work_topology.proofs.Bags.{in_front, in_rear}
 use Rattle.work_topology.proofs.Steps.{of_job}
 use Rattle.work_topology.proofs.Causes.{Behind, pass_cause}
 use Rattle.work_topology.proofs.Order.{not_itself}

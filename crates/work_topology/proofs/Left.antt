@@ -1,10 +1,7 @@
 -- Batches that were left in the queue: one more is worked.
-use Rattle.std.proofs.Common.{◌≡◌, ◌∙◌, ℕ, ◌≤◌, List, [], ◌∷◌, ◌++◌, length, Result, Ok, Err, ap, sym, refl, subst, arith, append_assoc}
-use Rattle.std.specs.Prelude.{⊤}
+use Rattle.std.proofs.Common.{◌≡◌, ◌∙◌, ℕ, List, [], ◌∷◌, ◌++◌, length, Ok, Err, ap, sym, refl, subst, arith, append_assoc}
 use Rattle.std.proofs.lemmas.List.{append-nil}
-use mathlib.Core.Option.{some}
-use lib.ListN.{get_elem?}
-use Rattle.atomic_table.proofs.Lists.{at_last, at_longer}
+use Rattle.atomic_table.proofs.Lists.{at_last}
 use Rattle.tb_types.specs.declared.trouble.Trouble.{Trouble}
 use Rattle.tb_types.specs.declared.trouble.Trouble.TheVariants as troubles
 use Rattle.tb_types.specs.Counts.{Rose}
@@ -12,9 +9,8 @@ use Rattle.tb_outside.specs.declared.lane.Lane.{Lane}
 use Rattle.tb_outside.specs.Spill.{SpillSeen}
 use Rattle.batch_queue.specs.Facts.{PassFacts, BatchFacts}
 use Rattle.batch_queue.specs.declared.entry.Entry.{Entry}
-use Rattle.work_topology.specs.declared.ends.Done.{Done}
 use Rattle.work_topology.specs.declared.post.Report.{Report}
-use Rattle.work_topology.specs.Objects.{Objects, objects_of, AreUncounted, NoneFell}
+use Rattle.work_topology.specs.Objects.{Objects, objects_of, AreUncounted}
 use Rattle.work_topology.specs.Job.{Meaning, JobCause, MayChange, SomeChanges, GoesOn}
 use Rattle.work_topology.specs.Lane.{TakesUp, IsDone}
 use Rattle.work_topology.specs.Parts.{WorksLeft, PopsAlso}

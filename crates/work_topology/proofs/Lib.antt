@@ -12,10 +12,12 @@ pub mod Left
 pub mod Order
 pub mod Pairs
 pub mod Ready
+pub mod Rest
 pub mod Runs
 pub mod Split
 pub mod Starts
 pub mod Steps
 pub mod Summing
+pub mod Tens
 pub mod Whole
 pub mod Working

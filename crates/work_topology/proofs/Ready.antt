@@ -1,13 +1,10 @@
 -- From the conditions of a pass to those of its work.
-use Rattle.std.proofs.Common.{◌≡◌, ◌∙◌, ℕ, ◌<◌, ◌≤◌, true, List, [], length, None, ap, sym, refl, subst, arith}
-use mathlib.Core.Option.{some}
-use lib.ListN.{get_elem?}
+use Rattle.std.proofs.Common.{◌≡◌, ◌∙◌, ℕ, true, List, [], length, None, ap, sym, arith}
 use Rattle.tb_outside.specs.declared.lane.Lane.{Lane}
 use Rattle.tb_outside.specs.Source.{SourceSeen}
 use Rattle.pbf_blobs.specs.declared.block.BlockAt.{BlockAt}
 use Rattle.claim_desk.specs.Facts.{DeskFacts, SeatFacts}
 use Rattle.work_topology.specs.declared.post.Report.{Report}
-use Rattle.work_topology.specs.Objects.{objects_of}
 use Rattle.work_topology.specs.Job.{Meaning}
 use Rattle.work_topology.specs.Start.{AreStarted}
 use Rattle.work_topology.specs.Ends.{MayPass}

@@ -1,20 +1,18 @@
 -- All lanes, before their runs and after.
-use Rattle.std.proofs.Common.{◌≡◌, ◌∙◌, ℕ, zero, suc, ◌+◌, ◌-◌, ◌<◌, ◌≤◌, true, List, [], ◌∷◌, ◌++◌, length, map, Option, Some, None, ap, sym, refl, subst, arith}
-use Rattle.std.specs.Prelude.{MatchOption, IfSome}
+use Rattle.std.proofs.Common.{◌≡◌, ◌∙◌, ℕ, ◌+◌, ◌-◌, ◌<◌, List, [], ◌∷◌, ◌++◌, length, Option, Some, None, ap, sym, refl, subst, arith}
+use Rattle.std.specs.Prelude.{MatchOption}
 use Rattle.std.specs.Option.{option_map}
 use Rattle.std.proofs.lemmas.List.{append-nil}
-use mathlib.Core.Option.{some, some-injective, some-ne-none}
+use mathlib.Core.Option.{some, some-ne-none}
 use lib.ListN.{get_elem?}
 use Rattle.tb_types.specs.declared.trouble.Trouble.{Trouble}
 use Rattle.tb_outside.specs.declared.lane.Lane.{Lane}
-use Rattle.claim_desk.specs.Facts.{IsSeatOf, has_ended}
-use Rattle.batch_queue.specs.Facts.{IsPassHere}
 use Rattle.work_topology.specs.declared.post.Report.{Report}
 use Rattle.work_topology.specs.declared.post.Post.{Post}
 use Rattle.work_topology.specs.Lists.{Each, Paired}
 use Rattle.work_topology.specs.Blocks.{IsLoaded, FitIn}
 use Rattle.work_topology.specs.Spread.{AllReady, AllRun}
-use Rattle.work_topology.specs.Objects.{Objects, objects_of}
+use Rattle.work_topology.specs.Objects.{objects_of}
 use Rattle.work_topology.specs.Job.{Worked, GoesOn}
 use Rattle.work_topology.specs.Lane.{Scene, Going, Leaving, IsDone, AllPushed, HasSeenEnd, IsReady, RunsOut, IsSameSeat, IsSamePass, told_by}
 use Rattle.work_topology.specs.Parts.{IsDealt, Leads, OfFirst, AreDealt, AreTogether, MayWork}

@@ -1,8 +1,7 @@
 -- What the lanes of a pass start with.
-use Rattle.std.proofs.Common.{◌≡◌, ◌⊎◌, inl, inr, ⊎_elim, ℕ, zero, suc, ◌+◌, ◌<◌, List, [], ◌∷◌, ◌++◌, length, length-append, ap, sym, ◌∙◌, refl, subst, arith}
+use Rattle.std.proofs.Common.{◌≡◌, ◌⊎◌, inl, inr, ⊎_elim, ℕ, zero, suc, List, [], ◌∷◌, ◌++◌, length, length-append, ap, sym, refl, subst, arith}
 use mathlib.Core.Option.{some, some-injective, some-ne-none}
 use lib.ListN.{get_elem?}
-use Rattle.atomic_table.proofs.Lists.{at_snoc, at_last}
 use Rattle.work_topology.specs.declared.post.Report.{Report}
 use Rattle.work_topology.specs.Job.{Meaning}
 use Rattle.work_topology.specs.Start.{IsStarted, AreStarted}

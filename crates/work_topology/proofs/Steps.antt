@@ -1,11 +1,11 @@
 -- One step of a lane that is well.
-use Rattle.std.proofs.Common.{◌≡◌, ⊎_elim, ℕ, zero, suc, ◌+◌, ◌<◌, ◌≤◌, List, [], ◌∷◌, ◌++◌, length, Option, Some, None, Result, Ok, Err, ap, sym, ◌∙◌, refl, subst, arith, append_assoc}
-use Rattle.std.specs.Prelude.{⊤, map, IfSome, OnOk, IfErr, slice_index_or, slice_range, Bool, true}
+use Rattle.std.proofs.Common.{◌≡◌, ⊎_elim, ℕ, zero, suc, ◌+◌, ◌<◌, ◌≤◌, List, [], ◌∷◌, ◌++◌, length, Option, Some, None, Ok, Err, ap, sym, ◌∙◌, refl, subst, arith, append_assoc}
+use Rattle.std.specs.Prelude.{⊤, map, IfSome, slice_index_or, slice_range, true}
 use Rattle.std.specs.Option.{option_map}
 use Rattle.std.proofs.lemmas.List.{map-append}
 use mathlib.Core.Option.{some, some-injective, some-ne-none}
 use lib.ListN.{get_elem?}
-use Rattle.atomic_table.proofs.Lists.{at_snoc, at_last, at_longer}
+use Rattle.atomic_table.proofs.Lists.{at_snoc, at_last}
 use Rattle.tb_types.specs.Counts.{Rose}
 use Rattle.tb_types.specs.declared.trouble.Trouble.{Trouble}
 use Rattle.tb_types.specs.declared.trouble.Trouble.TheVariants as troubles
@@ -14,14 +14,12 @@ use Rattle.tb_outside.specs.Source.{SourceSeen}
 use Rattle.tb_outside.specs.Spill.{SpillSeen}
 use Rattle.pbf_blobs.specs.declared.block.BlockAt.{BlockAt}
 use Rattle.claim_desk.specs.Facts.{SeatFacts, IsSeatOf, has_ended}
-use Rattle.batch_queue.specs.Facts.{PassFacts, BatchFacts, IsPassHere}
+use Rattle.batch_queue.specs.Facts.{PassFacts, BatchFacts}
 use Rattle.batch_queue.specs.declared.entry.Entry.{Entry}
-use Rattle.work_topology.specs.declared.ends.Done.{Done}
-use Rattle.work_topology.specs.declared.post.Report.{Report}
 use Rattle.work_topology.specs.declared.post.Post.{Post}
 use Rattle.work_topology.specs.Lists.{Each, Paired}
 use Rattle.work_topology.specs.Blocks.{IsLoaded, IsSomeBlock, FitIn, block_at, load_at}
-use Rattle.work_topology.specs.Objects.{Objects, objects_of, AreUncounted, NoneFell, StayBefore}
+use Rattle.work_topology.specs.Objects.{Objects, objects_of, AreUncounted, NoneFell}
 use Rattle.work_topology.specs.Job.{Meaning, Worked, JobCause, MayChange, SomeChanges, GoesOn}
 use Rattle.work_topology.specs.Lane.{Scene, Going, Leaving, LaneCause, NoCountFell, IsDone, IsSamePass, IsSameSeat, TakesUp, Loads, LoadCause, AllPushed, HasSeenEnd, told_by}
 

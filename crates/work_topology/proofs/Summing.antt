@@ -1,7 +1,6 @@
 -- What the lanes did, put together: one lane more.
-use Rattle.std.proofs.Common.{◌≡◌, ◌∙◌, ℕ, List, [], ◌∷◌, ◌++◌, map, ap, sym, refl, subst}
-use Rattle.std.specs.List.{flat_map}
-use Rattle.std.proofs.lemmas.List.{map_push, append-nil, flat_map_more}
+use Rattle.std.proofs.Common.{◌≡◌, ◌∙◌, ℕ, List, [], ◌∷◌, ◌++◌, ap, sym, subst}
+use Rattle.std.proofs.lemmas.List.{map_push, flat_map_more}
 use Rattle.pbf_blobs.specs.declared.block.BlockAt.{BlockAt}
 use Rattle.work_topology.specs.declared.ends.Done.{Done}
 use Rattle.work_topology.specs.declared.post.Report.{Report}

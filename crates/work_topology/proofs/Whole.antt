@@ -1,33 +1,24 @@
 -- All lanes after their runs: what was popped is one of the blocks, why a run ends early, and what all did where none had trouble.
-use Rattle.std.proofs.Common.{◌≡◌, ◌∙◌, inl, inr, ℕ, zero, suc, ◌+◌, ◌-◌, ◌<◌, ◌≤◌, true, List, [], ◌∷◌, ◌++◌, length, map, Result, Ok, Err, Option, Some, None, ap, sym, refl, subst, arith, append_assoc}
-use Rattle.std.specs.Prelude.{⊤, MatchOption, IfSome}
-use Rattle.std.specs.List.{flat_map, sum_by}
-use Rattle.std.proofs.lemmas.List.{length-map}
-use Rattle.std.proofs.lemmas.List.Sums.{sum_by-append}
-use Rattle.std.proofs.lemmas.Option.{none-some, same_Some}
-use mathlib.Core.Option.{some, some-injective, some-ne-none}
+use Rattle.std.proofs.Common.{◌≡◌, ◌∙◌, inl, inr, ℕ, List, map, Option, Some, None, ap, subst, arith}
+use Rattle.std.specs.Prelude.{MatchOption, IfSome}
+use Rattle.std.specs.List.{flat_map}
+use mathlib.Core.Option.{some}
 use lib.ListN.{get_elem?}
 use Rattle.tb_types.specs.Bags.{IsSameBag}
 use Rattle.tb_types.specs.declared.trouble.Trouble.{Trouble}
 use Rattle.tb_outside.specs.declared.lane.Lane.{Lane}
-use Rattle.claim_desk.specs.Facts.{SeatFacts, has_ended}
-use Rattle.batch_queue.specs.Facts.{PassFacts}
 use Rattle.batch_queue.specs.declared.entry.Entry.{Entry}
-use Rattle.work_topology.specs.declared.post.Report.{Report}
 use Rattle.work_topology.specs.declared.post.Post.{Post}
-use Rattle.work_topology.specs.Lists.{Each, Paired}
+use Rattle.work_topology.specs.Lists.{Each}
 use Rattle.work_topology.specs.Blocks.{IsLoaded, IsSomeBlock}
-use Rattle.work_topology.specs.Objects.{Objects, objects_of}
-use Rattle.work_topology.specs.Job.{Meaning, Worked, SomeChanges, GoesOn}
-use Rattle.work_topology.specs.Lane.{Scene, Going, Leaving, LaneCause, IsDone, AllPushed, HasSeenEnd, told_by}
-use Rattle.work_topology.specs.Told.{IsFirstTold, IsTold, NotBefore}
-use Rattle.work_topology.specs.Ends.{IsGiven, IsChanged, IsUncounted, PassCause, LaneStays, LanesStay}
-use Rattle.work_topology.specs.Parts.{OfFirst, AreGathered, PopsAlso, WorksLeft, HasWorked, HaveWorked}
-use Rattle.work_topology.proofs.Pairs.{inside, there, paired_at}
-use Rattle.work_topology.proofs.Bags.{bag_has, in_front, of_some, of_all, at_map, map_at, flat_map_each, flat_map_map}
-use Rattle.work_topology.proofs.Steps.{worked_push, paired_push, paired_each}
+use Rattle.work_topology.specs.Job.{SomeChanges}
+use Rattle.work_topology.specs.Lane.{Scene, Leaving, AllPushed, HasSeenEnd, told_by}
+use Rattle.work_topology.specs.Told.{IsFirstTold, NotBefore}
+use Rattle.work_topology.specs.Ends.{IsGiven, IsChanged, PassCause, LaneStays, LanesStay}
+use Rattle.work_topology.proofs.Pairs.{inside, there}
+use Rattle.work_topology.proofs.Bags.{bag_has, of_some, at_map, map_at}
+use Rattle.work_topology.proofs.Steps.{paired_each}
 use Rattle.work_topology.proofs.Causes.{wider, Behind, pass_cause}
-use Rattle.work_topology.proofs.Order.{not_itself}
 use Rattle.work_topology.proofs.Runs.{HaveRun}
 
 module _ {L Seed Out R S : Type 0} (c : Scene Seed Out R S) (lanes lanes' : List (Lane R S)) (posts posts' : List (Post L Out)) (ran : HaveRun c lanes lanes' posts posts') where

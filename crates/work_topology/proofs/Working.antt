@@ -1,11 +1,11 @@
 -- What all lanes did where none had trouble, with what was left in the queue worked on the first.
-use Rattle.std.proofs.Common.{◌≡◌, ◌∙◌, ℕ, zero, suc, ◌+◌, ◌-◌, ◌<◌, ◌≤◌, true, List, [], ◌∷◌, ◌++◌, length, map, set, Result, Ok, Option, Some, None, ap, sym, refl, subst, arith, append_assoc}
-use Rattle.std.specs.Prelude.{⊤, MatchOption}
+use Rattle.std.proofs.Common.{◌≡◌, ◌∙◌, ℕ, zero, suc, ◌<◌, true, List, [], ◌∷◌, ◌++◌, length, map, Ok, Option, None, ap, sym, refl, subst, arith}
+use Rattle.std.specs.Prelude.{MatchOption}
 use Rattle.std.specs.List.{flat_map, sum_by}
 use Rattle.std.specs.Option.{option_map}
 use Rattle.std.proofs.lemmas.List.{length-map, append-nil}
 use Rattle.std.proofs.lemmas.List.Sums.{sum_by-append}
-use mathlib.Core.Option.{some, some-injective, some-ne-none}
+use mathlib.Core.Option.{some, some-injective}
 use lib.ListN.{get_elem?}
 use Rattle.tb_types.specs.Bags.{IsSameBag}
 use Rattle.tb_types.specs.declared.trouble.Trouble.{Trouble}
@@ -13,7 +13,6 @@ use Rattle.tb_outside.specs.declared.lane.Lane.{Lane}
 use Rattle.claim_desk.specs.Facts.{SeatFacts, has_ended}
 use Rattle.batch_queue.specs.Facts.{PassFacts}
 use Rattle.batch_queue.specs.declared.entry.Entry.{Entry}
-use Rattle.work_topology.specs.declared.ends.Done.{Done}
 use Rattle.work_topology.specs.declared.post.Report.{Report}
 use Rattle.work_topology.specs.declared.post.Post.{Post}
 use Rattle.work_topology.specs.Lists.{Each, Paired}

@@ -1,5 +1,5 @@
 -- The blocks of a pass, and the bytes that are loaded for them.
-use Rattle.std.specs.Prelude.{◌≡◌, ℕ, ◌==◌, ◌+◌, ◌*◌, ◌<◌, ◌≤◌, ◌^◌, Option, IfSome, List, ◌++◌, length, map, slice_index_or, slice_range}
+use Rattle.std.specs.Prelude.{◌≡◌, ℕ, ◌==◌, ◌+◌, ◌<◌, ◌≤◌, Option, IfSome, List, ◌++◌, length, map, slice_index_or, slice_range}
 use Rattle.std.specs.List.{position_or_len}
 use Rattle.std.specs.Option.{option_map}
 use Rattle.pbf_blobs.specs.declared.block.BlockAt.{BlockAt}

@@ -4,7 +4,6 @@ use mathlib.Core.Option.{some}
 use lib.ListN.{get_elem?}
 use Rattle.tb_types.specs.declared.trouble.Trouble.{Trouble}
 use Rattle.tb_types.specs.declared.trouble.Trouble.TheVariants as troubles
-use Rattle.tb_types.specs.declared.trouble.Whom.{Whom}
 use Rattle.tb_types.specs.declared.trouble.Whom.TheVariants as whoms
 use Rattle.tb_outside.specs.Spill.{SpillSeen}
 use Rattle.batch_queue.specs.declared.entry.Entry.{Entry}

@@ -1,8 +1,6 @@
 -- What one lane did, from the start of its run up to a moment of it.
 use Rattle.std.specs.Prelude.{◌≡◌, ℕ, Bool, true, false, ◌+◌, IfSome, slice_range, ◌<◌, ◌≤◌, ◌++◌, ◌∷◌, [], None, Option, List, length, map, Result, IfOk, IfErr, OnOk, OnErr, MatchOption, ⊤}
 use Rattle.std.specs.Option.{option_map}
-use mathlib.Core.Option.{some}
-use lib.ListN.{get_elem?}
 use Rattle.tb_types.specs.Counts.{Rose}
 use Rattle.tb_types.specs.Needs.{block_need}
 use Rattle.tb_types.specs.declared.trouble.Trouble.{Trouble}
@@ -20,7 +18,7 @@ use Rattle.work_topology.specs.declared.post.Report.{Report}
 use Rattle.work_topology.specs.declared.post.Post.{Post}
 use Rattle.work_topology.specs.Lists.{Each, Paired}
 use Rattle.work_topology.specs.Blocks.{IsLoaded, IsSomeBlock, FitIn, load_at, GrewByBlocks}
-use Rattle.work_topology.specs.Objects.{Objects, objects_of, AreUncounted, NoneFell, IsLeastRisen}
+use Rattle.work_topology.specs.Objects.{objects_of, AreUncounted, NoneFell, IsLeastRisen}
 use Rattle.work_topology.specs.Job.{Meaning, Worked, JobCause, MayChange, SomeChanges, NeverChanges}
 
 -- what all lanes of a pass share: the job's meaning, what sources and spills tell, the blocks, the desk and the queue

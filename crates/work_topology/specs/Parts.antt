@@ -1,5 +1,5 @@
 -- The lanes' parts, before they run and after: what each lane works with, all of it joined, and what is left in the queue.
-use Rattle.std.specs.Prelude.{◌≡◌, ℕ, true, ◌-◌, ◌<◌, ◌≤◌, ◌++◌, [], ◌∷◌, None, List, length, map, Result, OnOk, IfErr, ⊤}
+use Rattle.std.specs.Prelude.{◌≡◌, ◌⊎◌, ℕ, true, ◌-◌, ◌<◌, ◌≤◌, ◌++◌, [], ◌∷◌, None, List, length, map, Result, OnOk, IfErr, ⊤}
 use Rattle.std.specs.List.{flat_map}
 use Rattle.std.specs.Option.{option_map}
 use mathlib.Core.Option.{some}
@@ -18,11 +18,14 @@ use Rattle.batch_queue.specs.declared.entry.Entry.{Entry}
 use Rattle.work_topology.specs.declared.ends.Done.{Done}
 use Rattle.work_topology.specs.declared.post.Report.{Report}
 use Rattle.work_topology.specs.declared.post.Post.{Post}
+use Rattle.work_topology.specs.declared.post.Gathered.{Gathered}
 use Rattle.work_topology.specs.Lists.{Each, Paired}
 use Rattle.work_topology.specs.Blocks.{IsLoaded, load_at, FitIn}
-use Rattle.work_topology.specs.Objects.{Objects, objects_of, AreUncounted, NoneFell}
+use Rattle.work_topology.specs.Objects.{objects_of, AreUncounted, NoneFell}
 use Rattle.work_topology.specs.Job.{Meaning, Worked, JobCause, SomeChanges}
-use Rattle.work_topology.specs.Lane.{IsDone}
+use Rattle.work_topology.specs.Lane.{Scene, IsDone, RunsOut}
+use Rattle.work_topology.specs.Spread.{AllRun}
+use Rattle.work_topology.specs.Told.{IsFirstTold}
 use Rattle.work_topology.specs.Ends.{IsUncounted}
 
 -- a desk's first seat, and a queue's first pass, after so many splits, with which nothing else was done
@@ -127,6 +130,22 @@ pub record WorksOnFirst {Seed Out R S : Type 0} (m : Meaning Seed Out S) (spill 
   pub are : (lanes' ≡ lane' ∷ rest) × (reports' ≡ report' ∷ others)
   pub does : EmptiesQueue m spill 0 pass lane report pass' lane' report' result
 
+-- no lane had trouble
+abbrev pub NoneTold : {Out : Type 0} → List (Report Out) → Type 0
+NoneTold reports = Each (λ r. r.trouble ≡ None) reports
+
+-- a lane's trouble is told, and nothing else was done
+pub record IsRefused {Out R S : Type 0} (pass : PassFacts) (lanes : List (Lane R S)) (reports : List (Report Out)) (pass' : PassFacts) (lanes' : List (Lane R S)) (result : Result ⊤ Trouble) : Type 0 where
+  pub err : OnOk result ⊥
+  pub first : IfErr result (IsFirstTold reports)
+  pub same_pass : pass' ≡ pass
+  pub same_lanes : lanes' ≡ lanes
+
+-- what was left in the queue is worked on the first lane, or a lane had trouble, which is told
+abbrev pub WorksRest : {Seed Out R S : Type 0} → Meaning Seed Out S → (S → SpillSeen) → PassFacts → List (Lane R S) → List (Report Out) → PassFacts → List (Lane R S) → List (Report Out) → Result ⊤ Trouble → Type 0
+WorksRest m spill pass lanes reports pass' lanes' reports' result =
+    (NoneTold reports × WorksOnFirst m spill pass lanes reports pass' lanes' reports' result) ⊎ IsRefused pass lanes reports pass' lanes' result
+
 -- what was left in the queue is popped, all of it
 abbrev pub GivesLeft : PassFacts → PassFacts → Type 0
 GivesLeft pass pass' = (entries : List Entry) × PopsAlso pass entries pass' × IsSameBag pass'.pushed pass'.popped
@@ -142,6 +161,14 @@ pub record MayWork {Seed Out R S : Type 0} (m : Meaning Seed Out S) (source : R 
   pub inside : Each (λ lane. FitIn blocks (source lane.reader).bytes) lanes
   pub fresh : Each (λ start. (start.claims ≡ []) × (start.done ≡ [])) starts
   pub ready : (k : ℕ) (lane : Lane R S) (start : Report Out) → get_elem? lanes k ≡ some lane → get_elem? starts k ≡ some start → m.fits k start.out (objects_of lane)
+
+-- Each lane was dealt a post, ran to its end from there, and all that they did was gathered.
+pub record HaveRunOut {L Seed Out R S : Type 0} (c : Scene Seed Out R S) (lanes : List (Lane R S)) (starts : List (Report Out)) (lanes' : List (Lane R S)) (g : Gathered L Out) : Type 0 where
+  pub posts : List (Post L Out)
+  pub posts' : List (Post L Out)
+  pub dealt : AreDealt c.desk c.queue starts posts
+  pub ran : AllRun (λ number lane post lane' post'. RunsOut c number lane post lane' post') 0 lanes posts lanes' posts'
+  pub gathered : AreGathered c.desk c.queue posts' g.seat g.pass g.reports.items
 
 -- One lane after all blocks were worked: what it claimed, loaded and pushed, and what it popped and worked.
 pub record HasWorked {Seed Out R S : Type 0} (m : Meaning Seed Out S) (source : R → SourceSeen) (spill : S → SpillSeen) (blocks : List BlockAt) (number : ℕ) (old new : Lane R S) (start report : Report Out) (pushed popped : List Entry) : Type 0 where

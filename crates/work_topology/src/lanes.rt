@@ -4,6 +4,7 @@ ghost use Rattle.work_topology.specs.Start.{AreStarted};
 ghost use Rattle.work_topology.specs.Ends.{MayPass, PassEnds, PassCause, LanesStay};
 
 use crate::ends::Ends;
+use crate::halves::Way;
 use crate::job::PassJob;
 use crate::lists::{Lists, ends_of};
 use crate::post::{Gathered, Report};
@@ -19,8 +20,8 @@ use std::thread::Threads;
 use tb_outside::{Gate, Lane, Source, Spill};
 use tb_types::{Memory, Seq, Trouble};
 
-// What each lane starts with, in order.
-fn started<L: Purse, R: Source, S: Spill, J: PassJob<L, R, S>>(
+/// What each lane starts with, in order.
+pub fn started<L: Purse, R: Source, S: Spill, J: PassJob<L, R, S>>(
     alloc: Global,
     job: &J,
     seeds: Vec<J::Seed>,
@@ -97,7 +98,19 @@ where
         Err(_) => return Err(Trouble::Memory),
     };
     let gathered = match work_all(
-        rt, alloc, lanes, blocks, book, queue, gate, number, job, &desk, seat, starts,
+        rt,
+        alloc,
+        Way::SideBySide,
+        lanes,
+        blocks,
+        book,
+        queue,
+        gate,
+        number,
+        job,
+        &desk,
+        seat,
+        starts,
     ) {
         Ok(gathered) => gathered,
         Err(trouble) => return Err(trouble),

@@ -29,3 +29,6 @@ pub use job::PassJob;
 pub use lanes::pass;
 pub use lister::{Lister, Tally};
 pub use memory_book::{Book, Busy, Grant, Purse, SharedBook};
+
+#[cfg(test)]
+mod tests;

@@ -25,8 +25,8 @@ pub struct Lister {
     pub mark: u8,
 }
 
-// Whether a body begins with the mark.
-fn is_marked(body: &[u8], mark: u8) -> bool
+/// Whether a body begins with the mark.
+pub(crate) fn is_marked(body: &[u8], mark: u8) -> bool
     ensures { result ≡ true → slice_get body.now 0 ≡ Some mark }
 {
     match body.first() {

@@ -4,7 +4,7 @@ ghost use Rattle.work_topology.specs.Spread.{AllReady, AllRun};
 ghost use Rattle.work_topology.specs.Job.{Meaning};
 ghost use Rattle.work_topology.specs.Lane.{scene, IsReady, RunsOut, EndsPart};
 
-use crate::halves::{Step, spread};
+use crate::halves::{Step, Way, spread};
 use crate::job::PassJob;
 use crate::post::{Post, Report};
 use crate::worker::Crew;
@@ -41,13 +41,19 @@ pub fn run_lanes<
     S: Spill + Send,
     G: Gate + Sync,
     J: PassJob<L, R, S> + Sync,
->(rt: &T, crew: &Crew<'_, T, L, G, J>, lanes: &mut [Lane<R, S>], posts: &mut Vec<Post<L, J::Out>>)
+>(
+    rt: &T,
+    way: Way,
+    crew: &Crew<'_, T, L, G, J>,
+    lanes: &mut [Lane<R, S>],
+    posts: &mut Vec<Post<L, J::Out>>,
+)
 where
     J::Out: Drop + Send,
     requires { AllReady (λ number lane post. IsReady (scene (J.meaning crew.now.job.now) R.seen S.seen crew.now.blocks.now crew.now.desk.now crew.now.queue.now) number lane post) 0 lanes.old posts.old.items }
     ensures { AllRun (λ number lane post lane' post'. RunsOut (scene (J.meaning crew.now.job.now) R.seen S.seen crew.now.blocks.now crew.now.desk.now crew.now.queue.now) number lane post lane' post') 0 lanes.old posts.old.items lanes.new posts.new.items }
 {
-    spread(rt, crew, 0, lanes, posts.as_mut_slice());
+    spread(rt, way, crew, 0, lanes, posts.as_mut_slice());
 }
 
 /// The end of a lane's part.
@@ -91,5 +97,12 @@ where
         job,
         ledger: PhantomData::<L>,
     };
-    spread(rt, &ender, 0, lanes, reports.as_mut_slice());
+    spread(
+        rt,
+        Way::SideBySide,
+        &ender,
+        0,
+        lanes,
+        reports.as_mut_slice(),
+    );
 }

@@ -231,28 +231,6 @@ impl<'a, T: Wait, L: Purse, G: Gate, J> Crew<'a, T, L, G, J> {
         }
     }
 
-    /// Claims until no block is left.
-    fn fill<R: Source, S: Spill>(
-        &self,
-        number: u32,
-        lane: &mut Lane<R, S>,
-        post: &mut Post<L, J::Out>,
-    ) -> Result<(), Trouble>
-    where
-        J: PassJob<L, R, S>,
-        requires well { IsReady (scene (J.meaning self.now.job.now) R.seen S.seen self.now.blocks.now self.now.desk.now self.now.queue.now) number lane.old post.old }
-        ensures { FillsUp (scene (J.meaning self.now.job.now) R.seen S.seen self.now.blocks.now self.now.desk.now self.now.queue.now) number lane.old post.old lane.new post.new result }
-    {
-        for _ in self.rt.forever() {
-            match self.take(number, lane, post) {
-                Ok(true) => {}
-                Ok(false) => return Ok(()),
-                Err(trouble) => return Err(trouble),
-            }
-        }
-        unreachable!()
-    }
-
     /// Works until the queue is empty.
     fn empty<R: Source, S: Spill>(
         &self,
@@ -287,13 +265,16 @@ impl<'a, T: Wait, L: Purse, G: Gate, J> Crew<'a, T, L, G, J> {
         requires well { IsReady (scene (J.meaning self.now.job.now) R.seen S.seen self.now.blocks.now self.now.desk.now self.now.queue.now) number lane.old post.old }
         ensures { FillsUp (scene (J.meaning self.now.job.now) R.seen S.seen self.now.blocks.now self.now.desk.now self.now.queue.now) number lane.old post.old lane.new post.new result }
     {
-        match self.fill(number, lane, post) {
-            Ok(()) => {}
-            Err(trouble) => return Err(trouble),
+        for _ in self.rt.forever() {
+            match self.take(number, lane, post) {
+                Ok(true) => {}
+                Ok(false) => match self.empty(number, lane, post) {
+                    Ok(()) => return Ok(()),
+                    Err(trouble) => return Err(trouble),
+                },
+                Err(trouble) => return Err(trouble),
+            }
         }
-        match self.empty(number, lane, post) {
-            Ok(()) => Ok(()),
-            Err(trouble) => Err(trouble),
-        }
+        unreachable!()
     }
 }

@@ -1,4 +1,4 @@
-use Rattle.std.proofs.Common.{◌≡◌, ◌∙◌, sym, subst, refl, arith}
+use Rattle.std.proofs.Common.{sym, subst, refl}
 use Rattle.work_topology.specs.Parts.{AreDealt}
 use Rattle.work_topology.proofs.Dealing.{first_and_rest, dealt_all}
 use Rattle.work_topology.proofs.deal.deal.Goals as goal

@@ -1,4 +1,4 @@
-use Rattle.std.proofs.Common.{◌≡◌, ◌∙◌, ◌+◌, ◌++◌, ◌∷◌, [], ap, sym, subst, refl, length-append}
+use Rattle.std.proofs.Common.{◌∙◌, ◌+◌, ◌++◌, ◌∷◌, [], ap, sym, subst, refl, length-append}
 use Rattle.std.proofs.lemmas.List.{append_assoc}
 use Rattle.work_topology.specs.Parts.{DealsRest}
 use Rattle.work_topology.proofs.Dealing.{dealt_more}

@@ -1,4 +1,4 @@
-use Rattle.std.proofs.Common.{rules, length, ◌≡◌, ◌∙◌, ◌++◌, ◌∷◌, [], ap, sym, subst, refl, arith}
+use Rattle.std.proofs.Common.{rules, length, ◌≡◌, ◌∙◌, ◌++◌, ◌∷◌, [], ap, subst, refl}
 use Rattle.std.proofs.lemmas.List.{nil_from_length}
 use Rattle.claim_desk.specs.Facts.{IsSeatOf}
 use Rattle.batch_queue.specs.Facts.{IsPassHere}

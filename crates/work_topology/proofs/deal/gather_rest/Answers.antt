@@ -1,11 +1,11 @@
-use Rattle.std.proofs.Common.{rules, ◌≡◌, ◌∙◌, ◌+◌, ◌++◌, ◌∷◌, [], ap, sym, subst, refl, length, length-append, arith}
+use Rattle.std.proofs.Common.{rules, ◌≡◌, ◌∙◌, ◌++◌, ◌∷◌, [], ap, sym, subst, length, length-append, arith}
 use Rattle.std.proofs.lemmas.List.{append_assoc}
 use Rattle.std.proofs.lemmas.List.{append-nil, nil_from_length}
 use Rattle.claim_desk.specs.Facts.{IsSeatOf}
 use Rattle.batch_queue.specs.Facts.{IsPassHere}
 use Rattle.work_topology.specs.Parts.{GathersRest}
 use Rattle.work_topology.proofs.Pairs.{in_middle}
-use Rattle.work_topology.proofs.Dealing.{gathered_none, gathered_more}
+use Rattle.work_topology.proofs.Dealing.{gathered_more}
 use Rattle.work_topology.proofs.deal.gather_rest.Goals as goal
 
 pub loop-post-preserved : goal.loop-post-preserved

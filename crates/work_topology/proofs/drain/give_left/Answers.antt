@@ -1,4 +1,4 @@
-use Rattle.std.proofs.Common.{◌≡◌, ◌∙◌, ◌++◌, ◌∷◌, [], ap, sym, subst, refl}
+use Rattle.std.proofs.Common.{◌∙◌, ◌++◌, ◌∷◌, [], ap, sym, subst, refl}
 use Rattle.tb_types.specs.Bags.{IsSameBag}
 use Rattle.work_topology.proofs.Left.{pops_none, pops_more}
 use Rattle.work_topology.proofs.drain.give_left.Goals as goal

@@ -1,4 +1,4 @@
-use Rattle.std.proofs.Common.{rules, arith, ◌≡◌, ◌<◌, length, drop, sym, subst}
+use Rattle.std.proofs.Common.{rules, ◌≡◌, ◌<◌, length, drop, sym, subst}
 use Rattle.std.specs.Prelude.{slice_set}
 use Rattle.work_topology.specs.Parts.{FirstFits, WorksOnFirst}
 use Rattle.work_topology.proofs.Pairs.{take_exact}

@@ -1,4 +1,4 @@
-use Rattle.std.proofs.Common.{◌≡◌, ◌∙◌, ◌++◌, ◌∷◌, [], ap, sym, subst, refl}
+use Rattle.std.proofs.Common.{◌∙◌, ◌++◌, ◌∷◌, [], ap, refl}
 use Rattle.work_topology.proofs.Left.{pops_none, pops_more, works_none, works_more, works_not}
 use Rattle.work_topology.proofs.drain.work_on.Goals as goal
 

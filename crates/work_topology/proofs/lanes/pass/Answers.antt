@@ -1,4 +1,4 @@
-use Rattle.std.proofs.Common.{rules, arith, ◌≡◌, ◌∙◌, ◌<◌, ◌≤◌, true, None, length, ap, sym, subst, refl}
+use Rattle.std.proofs.Common.{rules, arith, ◌≡◌, ◌∙◌, true, None, length, sym, subst}
 use Rattle.std.specs.Prelude.{min}
 use Rattle.tb_types.specs.Bags.{IsEachOnce, IsSameBag, below}
 use Rattle.claim_desk.specs.Facts.{has_ended}

@@ -1,4 +1,4 @@
-use Rattle.std.proofs.Common.{rules, ◌≡◌, ◌∙◌, ◌+◌, ◌++◌, ◌∷◌, [], ap, sym, subst, take, get_or}
+use Rattle.std.proofs.Common.{rules, ◌≡◌, ◌+◌, ◌++◌, ◌∷◌, [], sym, subst, take, get_or}
 use Rattle.std.proofs.lemmas.List.{take_more}
 use Rattle.work_topology.specs.declared.ends.Done.{Done}
 use Rattle.work_topology.specs.Blocks.{IsPlaceOf}

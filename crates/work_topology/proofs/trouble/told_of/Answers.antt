@@ -1,6 +1,6 @@
-use Rattle.std.proofs.Common.{◌≡◌, ◌∙◌, ◌+◌, ◌++◌, ◌∷◌, [], ap, sym, subst, refl, arith, take, Option, Some, None}
-use Rattle.std.proofs.lemmas.List.{take_more, take_all}
-use Rattle.work_topology.specs.Told.{IsTold, first_told}
+use Rattle.std.proofs.Common.{◌≡◌, ◌∙◌, ◌+◌, ◌++◌, ◌∷◌, [], ap, sym, subst, take}
+use Rattle.std.proofs.lemmas.List.{take_more}
+use Rattle.work_topology.specs.Told.{IsTold}
 use Rattle.work_topology.proofs.Order.{told_more}
 use Rattle.work_topology.proofs.trouble.told_of.Goals as goal
 

@@ -1,0 +1,7 @@
+pub mod Drawn
+pub mod Draws
+pub mod FrameList
+pub mod Heads
+pub mod SameWords
+pub mod Texts
+pub mod WorkedCases

@@ -1,0 +1,7 @@
+use Rattle.std.proofs.Common.{◌≡◌, take, map}
+use Rattle.gen_world.specs.Words.{pair_of}
+use Rattle.gen_world.specs.Tables.{values_in}
+use Rattle.gen_world.proofs.tagged.set_values.Given as goal
+
+abbrev pub invariant-loop-tag : goal.invariant-loop-tag
+invariant-loop-tag l = l.places.items ≡ values_in l.strings (map pair_of (take l.tag-index l.tags))

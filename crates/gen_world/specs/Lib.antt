@@ -1,0 +1,9 @@
+pub mod Blocks
+pub mod Draws
+pub mod Elements
+pub mod Frames
+pub mod Numbers
+pub mod Places
+pub mod Tables
+pub mod Words
+pub mod Worked
