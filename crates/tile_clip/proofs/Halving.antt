@@ -1,5 +1,5 @@
 -- The pieces of columns, and those of rows, rest on what touches their strip: so they are those of two halves.
-use Rattle.std.proofs.Common.{◌≡◌, ℕ, ◌+◌, ◌-◌, ◌*◌, ◌/◌, ◌<◌, ◌≤◌, ◌^◌, ◌⊎◌, inl, inr, List, [], ◌++◌, append-nil, pos, ◌+ℤ◌, ◌-ℤ◌, ◌≤ℤ◌, true, refl, sym, ap, ◌∙◌, arith}
+use Rattle.std.proofs.Common.{◌≡◌, ℕ, zero, suc, Bool, false, true≢false, ◌+◌, ◌-◌, ◌*◌, ◌/◌, ◌<◌, ◌≤◌, ◌^◌, ◌⊎◌, inl, inr, List, [], ◌++◌, append-nil, pos, ◌+ℤ◌, ◌-ℤ◌, ◌≤ℤ◌, true, refl, sym, ap, ◌∙◌, arith}
 use Rattle.std.proofs.lemmas.Int.{ints}
 use Rattle.tb_types.specs.declared.tile.TileXyz.{TileXyz}
 use Rattle.tb_types.specs.declared.shape.Shape.{Shape}
@@ -8,6 +8,7 @@ use Rattle.strip_clip.specs.declared.axis.Axis.TheVariants.{X, Y}
 use Rattle.strip_clip.specs.Cuts.{column, row, corner_of}
 use Rattle.tile_clip.specs.declared.outline.Outline.{Outline}
 use Rattle.tile_clip.specs.declared.outline.Halves.{Halves}
+use Rattle.tile_clip.specs.Parts.{RestOnStrips}
 use Rattle.tile_clip.specs.Pieces.{tile_at, with_tile, of_each, AreTakable}
 use Rattle.tile_clip.specs.Outlines.{touching, is_nothing, row_cut, tile_cut, row_piece, tile_piece, column_pieces, strip_of, split}
 use Rattle.tile_clip.proofs.Cutting.{IsPart, part, row-touching, column-touching, row-nothing, column-nothing}
@@ -15,12 +16,7 @@ use Rattle.tile_clip.proofs.Giving.{of_each-split, of_each-same, of_each-nothing
 use Rattle.tile_clip.proofs.Takable.{takable-front, takable-back, takable-same}
 
 module _ (buffer : ℕ) (axis : Axis) (piece : Outline → ℕ → List (TileXyz × Shape)) where
-  -- pieces of columns or rows rest on what touches the strip of some of them, and of nothing there are none
-  pub record RestOnStrips : Type 0 where
-    pub same : (outline half : Outline) (first count i : ℕ) → half ≡ touching (strip_of axis buffer first count) outline → first ≤ i → i < first + count → piece half i ≡ piece outline i
-    pub none : (outline : Outline) (i : ℕ) → is_nothing outline ≡ true → piece outline i ≡ []
-
-  module _ (law : RestOnStrips) (outline : Outline) where
+  module _ (law : RestOnStrips buffer axis piece) (outline : Outline) where
     pub nothing : (first count : ℕ) → is_nothing outline ≡ true → of_each (piece outline) first count ≡ []
     nothing first count e = of_each-nothing (piece outline) first count (λ i a b. law.none outline i e)
 
@@ -53,6 +49,12 @@ module _ (buffer : ℕ) (axis : Axis) (piece : Outline → ℕ → List (TileXyz
         let all : side ≡ first + (count + rest) = omega arith in
         let start : 0 + first ≡ first = omega arith in
         ap (of_each f 0) all ∙ of_each-split f 0 first (count + rest) ∙ ap (λ k. of_each f 0 first ++ of_each f k (count + rest)) start ∙ ap (λ xs. xs ++ of_each f first (count + rest)) (of_each-nothing f 0 first (λ i a b. unreached i (others i (omega arith) (inl (omega arith))))) ∙ of_each-split f first count rest ∙ ap (λ xs. of_each f first count ++ xs) (of_each-nothing f (first + count) rest (λ i a b. unreached i (others i (omega arith) (inr a)))) ∙ append-nil (of_each f first count)
+
+-- where one is a step, what isn't a step is more than one
+pub more-than-one : {step : Bool} (count : ℕ) → (count ≡ 1 → step ≡ true) → step ≡ false → 0 < count → 1 < count
+more-than-one zero one not some = absurd (omega arith)
+more-than-one (suc zero) one not some = absurd (true≢false (sym (one refl) ∙ not))
+more-than-one (suc (suc count)) one not some = omega arith
 
 -- the strip of some columns or rows has the strip of each of them
 low_bound : (first y buffer : ℕ) → first ≤ y → (pos (4096 * first) -ℤ pos buffer) ≤ℤ (pos (4096 * y) -ℤ pos buffer)

@@ -1,5 +1,5 @@
 -- Outlines that lie between bounds.
-use Rattle.std.proofs.Common.{◌≡◌, ℕ, ◌+◌, Bool, true, false, not, ◌||◌, cond, ◌⊎◌, inl, inr, ℤ, pos, ◌+ℤ◌, ◌-ℤ◌, ◌≤ℤ◌, Option, Some, None, option_and_then, List, [], ◌∷◌, All, map, filter_map, refl, sym, arith}
+use Rattle.std.proofs.Common.{◌≡◌, ℕ, ◌+◌, ◌*◌, Bool, true, false, not, ◌||◌, cond, ◌⊎◌, inl, inr, ℤ, pos, ◌+ℤ◌, ◌-ℤ◌, ◌≤ℤ◌, Option, Some, None, option_and_then, List, [], ◌∷◌, All, map, filter_map, refl, sym, arith}
 use Rattle.std.specs.List.{cons_option}
 use Rattle.std.specs.Prelude.{filter}
 use Rattle.std.proofs.lemmas.Int.{ints}
@@ -157,3 +157,7 @@ module _ (t : Strip) (axis : Axis) (lo hi : ℤ) where
   touching-within (OnePoint p) h = place_touching (inside t p) p h
   touching-within (Paths es) h = All-filter (touches t) Is es h
   touching-within (Polygons polygons) h = All-filter_map (AreRingsWithin axis lo hi) (AreRingsWithin axis lo hi) (touching_rings t) rings_touching polygons h
+
+-- so it stays in its column
+pub still-in-column : (buffer x : ℕ) (t : Strip) (outline : Outline) → IsWithin X (pos (4096 * x) -ℤ pos buffer) (pos (4096 * x) +ℤ pos (4096 + buffer)) outline → IsWithin X (pos (4096 * x) -ℤ pos buffer) (pos (4096 * x) +ℤ pos (4096 + buffer)) (touching t outline)
+still-in-column buffer x t = touching-within t X (pos (4096 * x) -ℤ pos buffer) (pos (4096 * x) +ℤ pos (4096 + buffer))

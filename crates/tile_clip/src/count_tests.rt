@@ -18,7 +18,7 @@ impl PieceTaker for Counts {
 
     ghost taken = { λ _. None };
 
-    ghost steps = { λ _ _. ⊤ };
+    ghost steps = { λ _ _ _. ⊤ };
 
     ghost stops = { λ _ _ _. ⊤ };
 
@@ -30,9 +30,9 @@ impl PieceTaker for Counts {
 
     ghost steps_none = { λ _. tt };
 
-    ghost steps_on = { λ _ _ _ _ _. tt };
+    ghost steps_on = { λ _ _ _ _ _ _ _. tt };
 
-    ghost stops_after = { λ _ _ _ _ _ _. tt };
+    ghost stops_after = { λ _ _ _ _ _ _ _. tt };
 }
 
 fn points_in(piece: &Shape) -> usize {
@@ -275,7 +275,7 @@ impl PieceTaker for Squares {
 
     ghost taken = { λ _. None };
 
-    ghost steps = { λ _ _. ⊤ };
+    ghost steps = { λ _ _ _. ⊤ };
 
     ghost stops = { λ _ _ _. ⊤ };
 
@@ -290,9 +290,9 @@ impl PieceTaker for Squares {
 
     ghost steps_none = { λ _. tt };
 
-    ghost steps_on = { λ _ _ _ _ _. tt };
+    ghost steps_on = { λ _ _ _ _ _ _ _. tt };
 
-    ghost stops_after = { λ _ _ _ _ _ _. tt };
+    ghost stops_after = { λ _ _ _ _ _ _ _. tt };
 }
 
 fn is_ring(piece: &Shape, wanted: &[(i32, i32)]) -> bool {

@@ -5,12 +5,13 @@
 //! or all of them are alike. So the work is that of the edges and pieces, and a tile that the shape misses costs nothing.
 //! Read `taker` (who is given the pieces), `edge` and `outline` (a shape as edges), `paths` and `rings` (what a strip keeps of
 //! them), `piece` (what is left in a tile) and `steady` (rows that are alike), then `tiling` and `span` (which columns and
-//! rows), then `rows`, `columns` and `pieces` (all tiles).
+//! rows), then `divided` (the halving, once for both), `rows`, `columns` and `pieces` (all tiles).
 #![tactic(auto)]
 
 mod columns;
 #[cfg(test)]
 mod count_tests;
+mod divided;
 mod edge;
 mod outline;
 mod paths;

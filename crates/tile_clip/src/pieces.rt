@@ -3,7 +3,7 @@ ghost use Rattle.strip_clip.specs.CleanCuts.{points_of};
 ghost use Rattle.tile_clip.specs.Given.{Gives};
 ghost use Rattle.tile_clip.specs.Pieces.{pieces_of};
 
-use crate::columns::all_columns;
+use crate::divided::all_parts;
 use crate::outline::outline_of;
 use crate::taker::{ClipErr, PieceTaker};
 use crate::tiling::Tiling;
@@ -31,7 +31,7 @@ pub fn for_tiles<T: PieceTaker>(
 {
     let mut points = Vec::new(alloc);
     match outline_of(alloc, shape) {
-        Ok(outline) => all_columns(alloc, outline, Tiling { z, buffer }, &mut points, take),
+        Ok(outline) => all_parts(alloc, Tiling { z, buffer }, outline, &mut points, take),
         Err(_) => Err(ClipErr::Memory),
     }
 }

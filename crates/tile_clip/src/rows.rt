@@ -1,77 +1,59 @@
-ghost use Rattle.std.specs.Prelude.{◌≡◌, ◌+◌, ◌^◌, ◌<◌, ◌≤◌, Some, IfOk, IfSome};
+ghost use Rattle.std.specs.Prelude.{◌≡◌, ◌+◌, ◌⊎◌, ◌^◌, ◌<◌, ◌≤◌, true, Some, IfOk, IfSome};
+ghost use Rattle.strip_clip.specs.declared.axis.Axis.TheVariants as axes;
 ghost use Rattle.strip_clip.specs.Cuts.{corner_of};
 ghost use Rattle.tile_clip.specs.Bounds.{IsInColumn};
 ghost use Rattle.tile_clip.specs.Given.{Gives};
-ghost use Rattle.tile_clip.specs.Outlines.{row_cut, row_piece};
-ghost use Rattle.tile_clip.specs.Steady.{like_piece};
-ghost use Rattle.tile_clip.specs.Pieces.{tile_at, with_tile, of_each, IsPiece, AreTakable};
+ghost use Rattle.tile_clip.specs.Outlines.{row_cut, row_piece, strip_of};
+ghost use Rattle.tile_clip.specs.Steady.{like_piece, is_steady};
+ghost use Rattle.tile_clip.specs.Pieces.{tile_at, with_tile, of_each, IsPiece};
 
-use crate::outline::{Outline, is_nothing, split};
+use crate::divided::Divided;
+use crate::outline::Outline;
 use crate::piece::row_cut;
-use crate::span::reached;
 use crate::steady::{copy_piece, is_steady};
 use crate::taker::{ClipErr, PieceTaker};
-use crate::tiling::{Column, strip_of};
+use crate::tiling::{Column, Tiling, strip_of};
 use std::alloc::Global;
 use strip_clip::Axis;
 use tb_types::{Grid, Memory, Shape, TileXyz};
 
-// Gives the pieces of all rows of a column, by the outline of what is left in the column. The list of points is one to work
-// in.
-pub fn all_rows<T: PieceTaker>(
-    alloc: Global,
-    outline: Outline,
-    column: Column,
-    points: &mut Vec<Grid>,
-    take: &mut T,
-) -> Result<(), ClipErr<T::Stop>>
-    requires within { IsInColumn column.tiling.buffer column.x outline }
-    requires pieces { AreTakable (of_each (row_piece column.tiling.z column.tiling.buffer column.x outline) 0 (2 ^ column.tiling.z)) }
-    ensures { Gives T.taken T.steps T.stops take.old take.new (of_each (row_piece column.tiling.z column.tiling.buffer column.x outline) 0 (2 ^ column.tiling.z)) result }
-{
-    let part = reached(Axis::Y, column.tiling, &outline);
-    rows(alloc, outline, column, part.first, part.count, points, take)
-}
+// A column's rows. One row is a step, and so are rows that are all alike.
+impl Divided for Column {
+    ghost axis = { axes.Y };
 
-// Gives the pieces of so many rows of a column, from a first one on, by the outline of what is left in the column.
-//
-// The rows are halved until one is left, or until they are all alike; to each half goes only what touches it.
-fn rows<T: PieceTaker>(
-    alloc: Global,
-    outline: Outline,
-    column: Column,
-    first: u32,
-    count: u32,
-    points: &mut Vec<Grid>,
-    take: &mut T,
-) -> Result<(), ClipErr<T::Stop>>
-    requires rows { first + count ≤ 2 ^ column.tiling.z }
-    requires within { IsInColumn column.tiling.buffer column.x outline }
-    requires pieces { AreTakable (of_each (row_piece column.tiling.z column.tiling.buffer column.x outline) first count) }
-    ensures { Gives T.taken T.steps T.stops take.old take.new (of_each (row_piece column.tiling.z column.tiling.buffer column.x outline) first count) result }
-{
-    if count == 0 {
-        return Ok(());
+    ghost tiling = { λ c. c.tiling };
+
+    ghost pieces = { λ c. row_piece c.tiling.z c.tiling.buffer c.x };
+
+    ghost fits = { λ c. IsInColumn c.tiling.buffer c.x };
+
+    ghost is_step = { λ c outline first count. (count ≡ 1) ⊎ (is_steady (strip_of axes.Y c.tiling.buffer first count) outline ≡ true) };
+
+    fn axis(self) -> Axis {
+        Axis::Y
     }
-    if is_nothing(&outline) {
-        return Ok(());
+
+    fn tiling(self) -> Tiling {
+        self.tiling
     }
-    if is_steady(strip_of(Axis::Y, column.tiling, first, count), &outline) {
-        return steady_rows(alloc, &outline, column, first, count, points, take);
+
+    fn is_step(self, outline: &Outline, first: u32, count: u32) -> bool {
+        count == 1 || is_steady(strip_of(Axis::Y, self.tiling, first, count), outline)
     }
-    if count == 1 {
-        return one_row(alloc, &outline, column, first, points, take);
-    }
-    let halves = match split(alloc, Axis::Y, column.tiling, first, count, outline) {
-        Ok(halves) => halves,
-        Err(_) => return Err(ClipErr::Memory),
-    };
-    let half = count / 2;
-    let middle = first + half;
-    let rest = count - half;
-    match rows(alloc, halves.first, column, first, half, points, take) {
-        Ok(()) => rows(alloc, halves.second, column, middle, rest, points, take),
-        Err(e) => Err(e),
+
+    fn give_step<T: PieceTaker>(
+        self,
+        alloc: Global,
+        outline: &Outline,
+        first: u32,
+        count: u32,
+        points: &mut Vec<Grid>,
+        take: &mut T,
+    ) -> Result<(), ClipErr<T::Stop>> {
+        if count == 1 {
+            return one_row(alloc, outline, self, first, points, take);
+        }
+        steady_rows(alloc, outline, self, first, count, points, take)
     }
 }
 

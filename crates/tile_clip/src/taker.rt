@@ -1,4 +1,4 @@
-ghost use Rattle.std.specs.Prelude.{◌≡◌, ◌^◌, ◌<◌, ◌≤◌, Option, List, [], ◌∷◌, OnOk, OnErr, IfErr};
+ghost use Rattle.std.specs.Prelude.{◌≡◌, ◌^◌, ◌<◌, ◌≤◌, Option, List, [], ◌∷◌, ◌++◌, OnOk, OnErr, IfErr};
 ghost use Rattle.tb_types.specs.declared.tile.TileXyz.{TileXyz};
 ghost use Rattle.tb_types.specs.declared.shape.Shape.{Shape};
 ghost use Rattle.strip_clip.specs.CleanCuts.{IsCleanCut, points_of};
@@ -15,8 +15,8 @@ pub trait PieceTaker {
     // The pieces so far, where the taker tells them.
     ghost taken: { Self → Option (List (TileXyz × Shape)) };
 
-    // How the taker before and the taker after are related where pieces were taken.
-    ghost steps: { Self → Self → Type 0 };
+    // How the taker before and the taker after are related where these pieces were taken between.
+    ghost steps: { Self → List (TileXyz × Shape) → Self → Type 0 };
 
     // How they are related where pieces were taken and then one was refused.
     ghost stops: { Self → Self → Self.Stop → Type 0 };
@@ -31,15 +31,15 @@ pub trait PieceTaker {
         requires few { points_of piece < 2 ^ 29 }
         ensures ok { OnOk result (taken self.new ≡ with_more (taken self.old) ((tile, piece) ∷ [])) }
         ensures err { OnErr result (taken self.new ≡ taken self.old) }
-        ensures steps { OnOk result (steps self.old self.new) }
+        ensures steps { OnOk result (steps self.old ((tile, piece) ∷ []) self.new) }
         ensures stops { IfErr result (λ stop. stops self.old self.new stop) };
 
     // Steps are stepwise, and a stop after steps is a stop from their beginning on.
-    ghost steps_none: { (a : Self) → steps a a };
+    ghost steps_none: { (a : Self) → steps a [] a };
 
-    ghost steps_on: { (a b c : Self) → steps a b → steps b c → steps a c };
+    ghost steps_on: { (a b c : Self) (some more : List (TileXyz × Shape)) → steps a some b → steps b more c → steps a (some ++ more) c };
 
-    ghost stops_after: { (a b c : Self) (stop : Self.Stop) → steps a b → stops b c stop → stops a c stop };
+    ghost stops_after: { (a b c : Self) (some : List (TileXyz × Shape)) (stop : Self.Stop) → steps a some b → stops b c stop → stops a c stop };
 }
 
 /// Why a shape's pieces were not all given.

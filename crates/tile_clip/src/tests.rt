@@ -1,5 +1,5 @@
-ghost use Rattle.std.specs.Prelude.{◌≡◌, ◌<◌, ◌≤◌, ◌^◌, length, Some, IfOk};
-ghost use Rattle.std.proofs.Common.{le_refl, le_trans};
+ghost use Rattle.std.specs.Prelude.{◌≡◌, ◌++◌, ◌<◌, ◌≤◌, ◌^◌, length, Some, IfOk, ⊤};
+ghost use Rattle.std.proofs.Common.{ap, sym, append-nil, append_assoc, ◌∙◌};
 ghost use Rattle.strip_clip.specs.CleanCuts.{points_of, polygon_points};
 ghost use Rattle.tile_clip.specs.Pieces.{pieces_of};
 
@@ -27,9 +27,9 @@ impl PieceTaker for Kept {
 
     ghost taken = { λ kept. Some kept.pieces };
 
-    ghost steps = { λ a b. length a.pieces ≤ length b.pieces };
+    ghost steps = { λ a more b. b.pieces ≡ a.pieces ++ more };
 
-    ghost stops = { λ a b _. length a.pieces ≤ length b.pieces };
+    ghost stops = { λ _ _ _. ⊤ };
 
     fn take(&mut self, tile: TileXyz, piece: Shape) -> Result<(), Full> {
         if self.room == 0 {
@@ -43,11 +43,11 @@ impl PieceTaker for Kept {
         Ok(())
     }
 
-    ghost steps_none = { λ a. le_refl (length a.pieces) };
+    ghost steps_none = { λ a. sym (append-nil a.pieces) };
 
-    ghost steps_on = { λ a b c h k. le_trans h k };
+    ghost steps_on = { λ a b c some more h k. k ∙ (ap (λ xs. xs ++ more) h ∙ append_assoc a.pieces some more) };
 
-    ghost stops_after = { λ a b c stop h k. le_trans h k };
+    ghost stops_after = { λ _ _ _ _ _ _ _. tt };
 }
 
 // The pieces of a shape, as a list.
