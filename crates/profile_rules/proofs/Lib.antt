@@ -1,6 +1,9 @@
 pub mod Digits
 pub mod FieldMaps
 pub mod Marks
+pub mod Merging
+pub mod Picked
+pub mod Placing
 pub mod Reading
 pub mod SoundParts
 pub mod SoundProfiles

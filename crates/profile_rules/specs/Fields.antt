@@ -1,13 +1,10 @@
--- What is told of a profile: its name, zooms and layers, whether all rules are for points, and the fields of each layer.
-use Rattle.std.specs.Prelude.{ℕ, Bool, true, false, ◌==◌, if◌then◌else◌, List, [], ◌∷◌, ◌++◌, map}
+-- What is told of a profile: its name, zooms and layers, and the fields of each layer.
+use Rattle.std.specs.Prelude.{ℕ, ◌==◌, if◌then◌else◌, List, [], ◌∷◌, ◌++◌, map}
 use Rattle.std.specs.List.Sorted.{IsStrictlySortedBy}
 use Rattle.std.specs.Ordering.{nat_cmp, is_eq, match_ordering}
 use Rattle.std.specs.Cmp.Lexicographic.{slice_cmp}
 use Rattle.tb_types.specs.declared.attribute.FieldKind.{FieldKind}
 use Rattle.tb_types.specs.declared.attribute.FieldKind.TheVariants as kinds
-use Rattle.profile_rules.specs.declared.parts.Form.{Form}
-use Rattle.profile_rules.specs.declared.parts.Form.TheVariants as forms
-use Rattle.std.specs.List.{list_all}
 use Rattle.profile_rules.specs.declared.parts.LayerInfo.{LayerInfo}
 use Rattle.profile_rules.specs.declared.parts.Rule.{Rule}
 use Rattle.profile_rules.specs.declared.parts.Parts.{Parts}
@@ -25,16 +22,6 @@ zooms_of parts = (parts.min, parts.max)
 
 abbrev pub layers_of : Parts → List LayerInfo
 layers_of parts = parts.layers
-
--- the form of points
-abbrev pub is_point : Form → Bool
-is_point forms.Point = true
-is_point forms.Line = false
-is_point forms.Area = false
-
--- all rules are for points
-abbrev pub has_points_only : Parts → Bool
-has_points_only parts = list_all (λ rule. is_point rule.form) parts.rules
 
 -- a field: the name of an attribute, and the kind of its values
 abbrev pub Field : Type 0

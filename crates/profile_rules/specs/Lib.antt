@@ -1,4 +1,5 @@
 pub mod Attributes
+pub mod ByKey
 pub mod Conditions
 pub mod Faults
 pub mod Features

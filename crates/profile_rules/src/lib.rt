@@ -5,11 +5,13 @@
 //! reason in the order of the stages is named that holds anywhere in the first faulty part.
 //!
 //! Read `parts` (what a profile is) with `condition` and `attribute`, then `fault`, `key`, `kinds` and `ranges` (what the
-//! stages are made of), then `top`, `layer`, `rule` and `read` (a text), `profile` and `one_key`, then `element`, `value`
-//! and `spec` (what the rules make of an element), and `field` (what is told of a layer).
+//! stages are made of), then `top`, `layer`, `rule` and `read` (a text), `by_key` with `merge` (which rules an element
+//! looks at), `profile` and `one_key`, then `element`, `value` and `spec` (what the rules make of an element), and `field`
+//! (what is told of a layer).
 #![tactic(auto)]
 
 mod attribute;
+mod by_key;
 mod condition;
 mod element;
 mod fault;
@@ -19,6 +21,7 @@ mod key;
 mod kinds;
 mod layer;
 mod limits;
+mod merge;
 mod one_key;
 mod parts;
 mod profile;
@@ -35,7 +38,7 @@ pub use field::fields;
 pub use limits::LONGEST_PROFILE;
 pub use one_key::one_rule;
 pub use parts::{Form, LayerInfo};
-pub use profile::{Profile, has_points_only, layers, name, zooms};
+pub use profile::{Profile, layers, name, zooms};
 pub use read::read_profile;
 pub use spec::{Spec, specs};
 pub use worked::worked_profiles;

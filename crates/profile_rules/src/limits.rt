@@ -26,5 +26,11 @@ pub const WIDEST_TOLERANCE: u32 = 64;
 
 pub const USUAL_TOLERANCE: u32 = 1;
 
+/// Numbers of keys are below this one.
+pub const KEY_NUMBERS: usize = 65_536;
+
+/// By how much the number of a key grows at each byte.
+pub const KEY_FACTOR: usize = 31;
+
 /// The digits of a tag's value at most, for it to count as a whole number: so each has 64 bits.
 pub const MOST_DIGITS: usize = 18;

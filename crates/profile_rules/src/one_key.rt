@@ -15,7 +15,7 @@ pub fn one_rule(alloc: Global, key: &str) -> Result<Profile, Memory>
     ensures { IfOk result (λ p. p ≡ one_rule_of key.now) }
 {
     let parts = one_rule_parts(alloc, key)?;
-    Ok(Profile::of(parts))
+    Profile::of(alloc, parts)
 }
 
 #[tactic(auto, unfolding(crate::specs::Top::usual_name))]

@@ -1,34 +1,41 @@
-ghost use Rattle.std.specs.Prelude.{◌≡◌};
-ghost use Rattle.profile_rules.specs.Fields.{name_of, zooms_of, layers_of, has_points_only};
+ghost use Rattle.std.specs.Prelude.{◌≡◌, IfOk};
+ghost use Rattle.profile_rules.specs.ByKey.{IsByKey};
+ghost use Rattle.profile_rules.specs.Fields.{name_of, zooms_of, layers_of};
 ghost use Rattle.profile_rules.specs.Sound.{IsSound};
 
-use crate::parts::{Form, LayerInfo, Parts};
+use crate::by_key::by_key;
+use crate::parts::{LayerInfo, Parts};
+use std::alloc::Global;
 use std::marker::Model;
+use tb_types::{Memory, Seq};
 
 /// A profile that was read, or the one of a key. Contracts see its parts.
 #[derive(Debug, Drop)]
 pub struct Profile {
     parts: Parts,
+    // the numbers of the rules by the key that each asks for
+    places: Seq<Seq<u16>>,
 }
 
 impl Model for Profile {
     ghost use Rattle.profile_rules.specs.declared.parts.Parts.{Parts};
-    ghost use Rattle.profile_rules.specs.Sound.{IsSound};
+    ghost use Rattle.profile_rules.specs.ByKey.{IsProfile};
 
     ghost Value = { Parts };
 
     ghost view = { λ p. p.parts };
 
-    ghost invariant = { λ p. IsSound p.parts };
+    ghost invariant = { λ p. IsProfile p.parts p.places };
 }
 
 impl Profile {
     /// The profile of these parts.
-    pub(crate) fn of(parts: Parts) -> Profile
+    pub(crate) fn of(alloc: Global, parts: Parts) -> Result<Profile, Memory>
         requires { IsSound parts }
-        ensures { result ≡ parts }
+        ensures { IfOk result (λ p. p ≡ parts) }
     {
-        Profile { parts }
+        let places = by_key(alloc, parts.rules.as_slice())?;
+        Ok(Profile { parts, places })
     }
 
     /// The parts of the profile.
@@ -37,6 +44,13 @@ impl Profile {
         ensures sound { IsSound self.now }
     {
         &self.parts
+    }
+
+    /// The numbers of the rules by the key that each asks for.
+    pub(crate) fn places(&self) -> &[Seq<u16>]
+        ensures { IsByKey self.now.rules result.now }
+    {
+        self.places.as_slice()
     }
 }
 
@@ -61,16 +75,4 @@ pub fn name(profile: &Profile) -> &str
     ensures { result.now ≡ name_of profile.now }
 {
     profile.parts.name.as_str()
-}
-
-/// Whether all rules are for points. It takes no memory.
-pub fn has_points_only(profile: &Profile) -> bool
-    ensures { result ≡ has_points_only profile.now }
-{
-    for rule in profile.parts.rules.as_slice() {
-        if rule.form != Form::Point {
-            return false;
-        }
-    }
-    true
 }

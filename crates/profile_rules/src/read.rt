@@ -32,7 +32,10 @@ pub fn read_profile(alloc: Global, text: &[u8]) -> Result<Profile, ProfileErr>
     ensures { Gives (λ p. p) result (profile_of text.now) }
 {
     match parts_of(alloc, text) {
-        Ok(parts) => Ok(Profile::of(parts)),
+        Ok(parts) => match Profile::of(alloc, parts) {
+            Ok(profile) => Ok(profile),
+            Err(_) => Err(ProfileErr::Memory),
+        },
         Err(e) => Err(e),
     }
 }

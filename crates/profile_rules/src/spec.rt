@@ -1,8 +1,10 @@
-ghost use Rattle.std.specs.Prelude.{◌≡◌, ◌++◌, ◌∷◌, [], ◌≤◌, length, IfOk, OnOk, All, filter_map};
+ghost use Rattle.std.specs.Prelude.{◌≡◌, ◌++◌, ◌∷◌, [], ◌≤◌, length, option_copied, IfOk, OnOk, All, filter_map};
 ghost use Rattle.profile_rules.specs.Features.{specs_of, specs_in, spec_of, attr_of};
+ghost use Rattle.profile_rules.specs.ByKey.{IsByKey, specs_if, specs_by};
 ghost use Rattle.profile_rules.specs.Sound.{IsSoundSpec};
 
 use crate::attribute::Attribute;
+use crate::by_key::{asking_none, numbers_for};
 use crate::element::applies;
 use crate::parts::{Form, Parts, Rule};
 use crate::profile::Profile;
@@ -29,33 +31,67 @@ pub fn specs(alloc: Global, profile: &Profile, tags: &Tags, kind: Kind) -> Resul
     ensures value { IfOk result (λ specs. specs ≡ specs_of profile.now tags.now kind) }
     ensures sound { IfOk result (λ specs. All (IsSoundSpec profile.now) specs) }
 {
-    specs_under(alloc, profile.parts(), tags, kind)
+    specs_under(alloc, profile.parts(), profile.places(), tags, kind)
 }
 
-fn specs_under(alloc: Global, parts: &Parts, tags: &Tags, kind: Kind) -> Result<Seq<Spec>, Memory>
-    requires { length parts.now.rules ≤ 1024 }
+// Of many rules those alone are looked at that ask for no key, or for one that may be a tag's.
+fn specs_under(
+    alloc: Global,
+    parts: &Parts,
+    places: &[Seq<u16>],
+    tags: &Tags,
+    kind: Kind,
+) -> Result<Seq<Spec>, Memory>
+    requires { IsByKey parts.now.rules places.now }
     ensures { IfOk result (λ specs. specs ≡ specs_of parts.now tags.now kind) }
 {
     let rules = parts.rules.as_slice();
     let tags = tags.pairs.as_slice();
+    if tags.is_empty() {
+        return specs_by(alloc, tags, kind, rules, asking_none(places));
+    }
+    let numbers = numbers_for(alloc, places, tags)?;
+    specs_by(alloc, tags, kind, rules, &numbers)
+}
+
+// What the rules of these numbers make of an element.
+fn specs_by(
+    alloc: Global,
+    tags: &[(Text, Text)],
+    kind: Kind,
+    rules: &[Rule],
+    numbers: &[u16],
+) -> Result<Seq<Spec>, Memory>
+    ensures { IfOk result (λ specs. specs ≡ specs_by tags.now kind rules.now numbers.now) }
+{
     let mut specs = Seq::new(alloc);
-    for i in 0..rules.len() {
-        add_spec(alloc, &mut specs, tags, kind, i as u16, &rules[i])?;
+    for number in numbers {
+        add_spec(
+            alloc,
+            &mut specs,
+            tags,
+            kind,
+            *number,
+            rules.get(usize::from(*number)),
+        )?;
     }
     Ok(specs)
 }
 
-// Adds what a rule makes of an element, where it is for it.
+// Adds what a rule makes of an element, where there is one and it is for it.
 fn add_spec(
     alloc: Global,
     specs: &mut Seq<Spec>,
     tags: &[(Text, Text)],
     kind: Kind,
     number: u16,
-    rule: &Rule,
+    rule: Option<&Rule>,
 ) -> Result<(), Memory>
-    ensures { OnOk result (specs.new ≡ specs.old ++ specs_in tags.now kind ((number, rule.now) ∷ [])) }
+    ensures { OnOk result (specs.new ≡ specs.old ++ specs_if tags.now kind number (option_copied rule.entry)) }
 {
+    let Some(rule) = rule else {
+        return Ok(());
+    };
     if applies(tags, kind, rule) {
         specs.push(spec_of(alloc, tags, number, rule)?)?;
     }

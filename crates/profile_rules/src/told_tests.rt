@@ -1,7 +1,7 @@
 //! What is told of profiles, of those in texts and of that of a key.
 
 use crate::element_tests::{FORMS, ROADS, TRIAL, Value, makes, read};
-use crate::{Form, LayerInfo, Profile, fields, has_points_only, layers, name, one_rule, zooms};
+use crate::{Form, LayerInfo, Profile, fields, layers, name, one_rule, zooms};
 use std::alloc::Global;
 use std::test::Fail;
 use tb_types::{FieldKind, Kind, Memory, Text};
@@ -9,12 +9,11 @@ use tb_types::{FieldKind, Kind, Memory, Text};
 /// A layer as it is to be: its id, buffer, tolerance and fields.
 type WantLayer = (&'static str, u32, u32, &'static [(&'static str, FieldKind)]);
 
-/// What is told of a profile: its name, whether it has points only, its zooms and its layers.
-type Told = (&'static str, bool, (u8, u8), &'static [WantLayer]);
+/// What is told of a profile: its name, its zooms and its layers.
+type Told = (&'static str, (u8, u8), &'static [WantLayer]);
 
 const ROADS_TOLD: Told = (
     "map",
-    false,
     (0, 0),
     &[
         ("roads", 64, 1, &[]),
@@ -24,7 +23,6 @@ const ROADS_TOLD: Told = (
 
 const TRIAL_TOLD: Told = (
     "trial",
-    false,
     (10, 12),
     &[
         ("points", 64, 1, &[("amenity", FieldKind::Text)]),
@@ -45,7 +43,6 @@ const TRIAL_TOLD: Told = (
 
 const FORMS_TOLD: Told = (
     "map",
-    false,
     (0, 14),
     &[(
         "a",
@@ -64,12 +61,7 @@ const FORMS_TOLD: Told = (
 );
 
 /// What is told of the profile of the key k.
-const KEY_TOLD: Told = (
-    "map",
-    true,
-    (0, 0),
-    &[("nodes", 0, 0, &[("k", FieldKind::Text)])],
-);
+const KEY_TOLD: Told = ("map", (0, 0), &[("nodes", 0, 0, &[("k", FieldKind::Text)])]);
 
 fn are_fields(got: &[(Text, FieldKind)], want: &[(&str, FieldKind)]) -> bool {
     let mut alike = got.len() == want.len();
@@ -97,10 +89,8 @@ fn are_layers(alloc: Global, profile: &Profile, want: &[WantLayer]) -> Result<bo
 }
 
 fn is_told(alloc: Global, profile: &Profile, want: &Told) -> Result<bool, Memory> {
-    let (called, points_only, range, layers) = want;
-    let alike = name(profile) == *called
-        && has_points_only(profile) == *points_only
-        && zooms(profile) == *range;
+    let (called, range, layers) = want;
+    let alike = name(profile) == *called && zooms(profile) == *range;
     Ok(alike && are_layers(alloc, profile, *layers)?)
 }
 
