@@ -1,13 +1,12 @@
 -- A tile that a writer took is one tile more.
-use Rattle.std.proofs.Common.{◌≡◌, ℕ, ◌+◌, ◌^◌, ◌<◌, Option, Some, Ok, Err, List, [], ◌∷◌, ◌++◌, length, refl, sym, ap, subst, ◌∙◌}
-use Rattle.tb_outside.specs.Spill.{SpillSeen, Runs}
+use Rattle.std.proofs.Common.{◌≡◌, ℕ, ◌^◌, ◌<◌, Ok, List, length, subst}
+use Rattle.tb_outside.specs.Spill.{SpillSeen}
 use Rattle.mvt_codec.specs.declared.item.RunItem.{RunItem}
 use Rattle.mvt_codec.specs.Groups.{text_of_items}
 use Rattle.pmtiles_dirs.specs.Contents.{Tile}
 use Rattle.pmtiles_file.specs.Writing.{WriterSeen, AddAnswers}
-use Rattle.build_one.specs.declared.stop.TileStop.TheVariants as stops
-use Rattle.build_one.specs.Map.{tile_from}
-use Rattle.build_one.specs.Writing.{first_tile, Writes, TileAnswers}
+use Rattle.tile_model.specs.Map.{tile_from}
+use Rattle.build_one.specs.Writing.{first_tile, TileAnswers}
 
 added : (old new : WriterSeen) (id : ℕ) (bytes : List ℕ) (before after : SpillSeen) → length bytes < 2 ^ 32 → AddAnswers old new id bytes before after (Ok tt)
     → TileAnswers old new (record { id = id; bytes = bytes }) before after (Ok tt)

@@ -1,5 +1,5 @@
 -- No two features have one name: blocks have different numbers, and so have the nodes of a block.
-use Rattle.std.proofs.Common.{◌≡◌, ◌≢◌, ℕ, zero, suc, ◌+◌, ◌≤◌, ◌<◌, Option, Result, Ok, Err, List, [], ◌∷◌, ◌++◌, length, map, All, refl, sym, ap, subst, ◌∙◌, arith}
+use Rattle.std.proofs.Common.{◌≡◌, ◌≢◌, ℕ, ◌+◌, ◌≤◌, Option, Result, Ok, Err, List, [], ◌∷◌, length, map, refl, sym, subst, ◌∙◌, arith}
 use Rattle.std.proofs.lemmas.List.Elements.{All-from_recursion}
 use Rattle.std.specs.List.{AllByRecursion, range_with_len}
 use Rattle.tb_types.specs.declared.damage.Damage.{Damage}
@@ -12,17 +12,15 @@ use Rattle.pbf_blobs.specs.declared.block.BlockKind.TheVariants as kinds
 use Rattle.pbf_blobs.specs.Answers.{IsNumbered}
 use Rattle.pbf_blobs.specs.Blob.{raw_of}
 use Rattle.osm_elements.specs.declared.element.Block.{Block}
-use Rattle.osm_elements.specs.Elements.{Element}
 use Rattle.osm_elements.specs.Block.{block_of, elements_of}
 use Rattle.osm_elements.specs.Block as osm
 use Rattle.profile_rules.specs.declared.parts.Parts.{Parts}
-use Rattle.sorted_lists.specs.Sorting.{KeysDiffer}
 use Rattle.sorted_lists.proofs.Orders.{Pairs, AllPairs_from_pairs}
 use Rattle.sorted_lists.proofs.Proved as lists
-use Rattle.tile_model.specs.PointLaws.{AreNumbered}
+use Rattle.tile_model.specs.ExtractLaws.{AreNumbered}
 use Rattle.tile_model.proofs.Proved as laws
-use Rattle.build_one.specs.Contents.{Content, header, elements, unread, header_in, block_in, content_of, in_block, content_at, contents_at, with_later, body_at}
-use Rattle.build_one.specs.Map.{blocks_in}
+use Rattle.tile_model.specs.Contents.{Content, header, elements, unread, header_in, block_in, content_of, in_block, content_at, contents_at, with_later, body_at}
+use Rattle.tile_model.specs.Map.{blocks_in}
 use Rattle.build_one.specs.Survey.{AreApart}
 
 -- numbers that ascend one by one, from one on
@@ -74,7 +72,7 @@ IsRead (Ok block) = AreNumbered block
 IsRead (Err why) = Unit {0}
 
 read-if : (es : osm.Found) → IsRead (osm.block_if es)
-read-if (Ok es) = laws.points.numbered es
+read-if (Ok es) = laws.extracts.numbered es
 read-if (Err why) = tt
 
 read-raw : (raw : List ℕ) → IsRead (block_of raw)
@@ -111,7 +109,10 @@ good extract n (b ∷ blocks) h =
     (subst (λ m. IsGoodContent m (content_at extract b)) h.0 (good-content b.no b.kind (body_at extract b))) (good extract (n + 1) blocks h.1)
 
 apart-if : (parts : Parts) (found : Result (List Content) Damage) → AreGood 0 found → AreApart parts found
-apart-if parts (Ok contents) g = laws.points.differ parts (blocks_in contents) (AllPairs_from_pairs _ (blocks_in contents) g.1) (All-from_recursion _ (blocks_in contents) g.2)
+apart-if parts (Ok contents) g =
+    let differ = AllPairs_from_pairs (λ (a b : ℕ × Block). a.0 ≢ b.0) (blocks_in contents) g.1 in
+    let numbered = All-from_recursion (λ (b : ℕ × Block). AreNumbered b.1) (blocks_in contents) g.2 in
+    record { names = laws.extracts.differ parts (blocks_in contents) differ numbered; places = laws.extracts.placed (blocks_in contents) differ numbered }
 apart-if parts (Err damage) g = tt
 
 pub apart : (parts : Parts) (extract : List ℕ) (blocks : List BlockAt) → IsNumbered blocks → AreApart parts (contents_at extract blocks)

@@ -1,8 +1,8 @@
 -- A build has far fewer entries than can be read back.
-use Rattle.std.proofs.Common.{◌≡◌, ℕ, zero, suc, ◌+◌, ◌-◌, ◌*◌, ◌^◌, ◌<◌, ◌≤◌, Bool, true, false, cond, Option, None, Some, List, [], ◌∷◌, ◌++◌, length, map, filter_map, refl, sym, ap, subst, ◌∙◌, arith}
-use Rattle.std.proofs.lemmas.List.{length-map, length-append}
+use Rattle.std.proofs.Common.{◌≡◌, ℕ, ◌+◌, ◌-◌, ◌^◌, ◌<◌, ◌≤◌, Bool, true, false, cond, Option, None, Some, List, [], ◌∷◌, length, map, filter_map, ap, ◌∙◌, arith}
+use Rattle.std.proofs.lemmas.List.{length-map}
 use Rattle.std.proofs.lemmas.List.FromFn.{length-range_with_len}
-use Rattle.std.specs.List.{fold, cons_option, range_with_len}
+use Rattle.std.specs.List.{fold, cons_option}
 use Rattle.mvt_codec.specs.declared.item.RunItem.{RunItem}
 use Rattle.pmtiles_dirs.specs.Contents.{Tile, Stretch, with_tile, one_tile, one_more, continues, contents_of, stretches_of, entry_for, entries_of}
 use Rattle.hilbert_ids.specs.Ids.{number_of, first_id_of}

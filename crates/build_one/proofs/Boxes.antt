@@ -1,7 +1,6 @@
 -- A valid box can be written as a map's bounds.
 use Rattle.std.proofs.Common.{◌≡◌, ℕ, ◌≤◌, Bool, true, false, true≢false, ◌&&◌, Option, None, Some, IfSome, ℤ, pos, negsuc, refl, sym, arith}
 use Rattle.std.specs.Prelude.{unsigned_abs}
-use Rattle.std.specs.Int.{int_div_euclid}
 use Rattle.std.proofs.lemmas.Bool.{leb-true}
 use Rattle.std.proofs.lemmas.Int.{ints}
 use Rattle.tb_types.specs.declared.location.Bounds.{Bounds}

@@ -1,12 +1,13 @@
 -- What a build answers by each of its ways, on one lane.
-use Rattle.std.proofs.Common.{◌≡◌, ℕ, ◌≤◌, Bool, true, false, cond, Option, None, Some, IfSome, Result, Ok, Err, List, [], ◌∷◌, map, refl, sym, ap, subst, ◌∙◌, arith, true≢false}
+use Rattle.std.proofs.Common.{◌≡◌, ℕ, ◌≤◌, true, false, cond, Option, None, Some, IfSome, Result, Ok, Err, List, [], ◌∷◌, unwrap_or, refl, sym, ap, subst, ◌∙◌, arith, true≢false}
 use Rattle.std.specs.Option.{option_map, option_and_then}
-use Rattle.tb_types.specs.Counts.{Rose, Counted}
+use Rattle.tb_types.specs.Counts.{Counted}
 use Rattle.tb_types.specs.declared.damage.Damage.{Damage}
-use Rattle.tb_types.specs.declared.trouble.Whom.{Whom}
 use Rattle.tb_types.specs.declared.trouble.Whom.TheVariants as whom
 use Rattle.tb_outside.specs.Source.{SourceSeen}
-use Rattle.tb_outside.specs.Spill.{SpillSeen}
+use Rattle.tb_outside.specs.Spill.{SpillSeen, Runs}
+use Rattle.tb_types.specs.declared.location.Bounds.{Bounds}
+use Rattle.mvt_codec.specs.declared.item.RunItem.{RunItem}
 use Rattle.tb_outside.specs.Sink.{SinkSeen}
 use Rattle.pbf_blobs.specs.declared.stop.ScanStop.{ScanStop}
 use Rattle.pbf_blobs.specs.declared.stop.ScanStop.TheVariants as scan_stops
@@ -15,16 +16,17 @@ use Rattle.profile_rules.specs.Faults.{Fault}
 use Rattle.pmtiles_file.specs.declared.totals.Totals.{Totals}
 use Rattle.build_one.specs.declared.found.Found.{Found}
 use Rattle.build_one.specs.declared.from.ProfileFrom.{ProfileFrom}
-use Rattle.build_one.specs.declared.stop.ProfileStop.{ProfileStop}
-use Rattle.build_one.specs.declared.stop.ProfileStop.TheVariants as profile_stops
 use Rattle.build_one.specs.declared.stop.Stop.{Stop}
 use Rattle.build_one.specs.declared.stop.Stop.TheVariants as stops
 use Rattle.build_one.specs.Answers.{BuildAnswers, IsDue, IsJudged, HasCause, Writes, ends_early, ends_before_tiles}
-use Rattle.build_one.specs.Contents.{Content, contents_of}
-use Rattle.build_one.specs.Due.{Due, due_of_contents, due_of_extract, due_of_profile, due_in, parts_from, is_built}
-use Rattle.build_one.specs.Made.{IsKnown, MapCounts, MapWritten}
-use Rattle.build_one.specs.Profiles.{IsAlone, ReadsProfile, profile_failed}
-use Rattle.build_one.specs.Stops.{stop_of_profile, stop_of_survey}
+use Rattle.tile_model.specs.Contents.{Content, contents_of}
+use Rattle.build_one.specs.Due.{Due, due_of_tiles, due_of_contents, due_of_extract, due_of_profile, parts_from}
+use Rattle.build_one.specs.Made.{IsDueBy, IsKnown, MapCounts, MapWritten}
+use Rattle.build_one.specs.Passes.{Gathers}
+use Rattle.tile_model.specs.Bounds.{first_box}
+use Rattle.tile_model.specs.Map.{meta_of, tiles_of}
+use Rattle.build_one.specs.Profiles.{IsAlone}
+use Rattle.build_one.specs.Stops.{stop_of_survey}
 use Rattle.build_one.specs.Survey.{Surveys, survey_failed}
 use Rattle.build_one.proofs.Causes
 use Rattle.build_one.proofs.Tiling.{kept-self}
@@ -37,22 +39,49 @@ if-some (Some x) P Q f h = f x h
 abbrev due_by : Option (Result Parts Fault) → Option (List ℕ) → Option Due
 due_by told extract = option_and_then (λ found. due_of_profile found extract) told
 
--- with a profile that is built it is by the extract
-due-of-parts : (parts : Parts) (extract : Option (List ℕ)) → is_built parts ≡ true → due_of_profile (Ok parts) extract ≡ option_map (due_of_extract parts) extract
-due-of-parts parts extract h = ap (λ b. cond b (option_map (due_of_extract parts) extract) (Some (Err stops.NotYet))) h
+on-due : (told : Option (Result Parts Fault)) (parts : Parts) (extract : Option (List ℕ)) (P : Option Due → Type 0) → IfSome told (λ found. found ≡ Ok parts) → P None → P (option_map (due_of_extract parts) extract) → P (due_by told extract)
+on-due None parts extract P is none some = none
+on-due (Some found) parts extract P is none some = subst P (sym (ap (λ f. due_of_profile f extract) is)) some
 
-on-due : (told : Option (Result Parts Fault)) (parts : Parts) (extract : Option (List ℕ)) (P : Option Due → Type 0) → IfSome told (λ found. found ≡ Ok parts) → is_built parts ≡ true
-    → P None → P (option_map (due_of_extract parts) extract) → P (due_by told extract)
-on-due None parts extract P is h none some = none
-on-due (Some found) parts extract P is h none some = subst P (sym (ap (λ f. due_of_profile f extract) is ∙ due-of-parts parts extract h)) some
+-- what is told of an extract that was surveyed
+abbrev AreSurveyed : Parts → Found → Option (List ℕ) → Type 0
+AreSurveyed parts found extract = IfSome extract (λ bytes. Surveys parts bytes (Ok found) (contents_of bytes))
 
-known-if : (parts : Parts) (found : Found) (contents : Result (List Content) Damage) → Surveys parts (Ok found) contents → IsKnown parts found (Some (due_of_contents parts contents))
-known-if parts found (Ok contents) h = (contents, refl, h.0, h.1)
-known-if parts found (Err damage) h = absurd h.0
+-- by contents without a kept relation, of which all items were gathered
+known-if : (parts : Parts) (found : Found) (bytes : List ℕ) (items : List RunItem) (box : Option Bounds) (contents : Result (List Content) Damage) → Surveys parts bytes (Ok found) contents → found.kept ≡ false
+    → Gathers parts bytes found (Ok items) → box ≡ unwrap_or found.header_box None → IsDueBy parts items box (due_of_contents parts contents)
+known-if parts found bytes items box (Ok contents) h kept gathers is = record {
+  contents = contents;
+  is = ap (λ b. cond b (Err stops.NotYet) (due_of_tiles (meta_of parts (first_box contents)) (tiles_of parts contents))) (sym h.0.kept ∙ kept);
+  same = gathers contents h.0 h.1;
+  box_is = is ∙ ap (λ b. unwrap_or b None) h.0.box;
+  names = h.1.names;
+}
+known-if parts found bytes items box (Err damage) h kept gathers is = absurd h.0
 
-known : (parts : Parts) (found : Found) (extract : Option (List ℕ)) → IfSome extract (λ bytes. Surveys parts (Ok found) (contents_of bytes)) → IsKnown parts found (option_map (due_of_extract parts) extract)
-known parts found None h = tt
-known parts found (Some bytes) h = known-if parts found (contents_of bytes) h
+known : (parts : Parts) (found : Found) (extract : Option (List ℕ)) (items : List RunItem) (box : Option Bounds) → AreSurveyed parts found extract → found.kept ≡ false → IfSome extract (λ bytes. Gathers parts bytes found (Ok items))
+    → box ≡ unwrap_or found.header_box None → IsKnown parts items box (option_map (due_of_extract parts) extract)
+known parts found None items box h kept gathers is = tt
+known parts found (Some bytes) items box h kept gathers is = known-if parts found bytes items box (contents_of bytes) h kept gathers is
+
+-- a kept relation isn't built yet
+kept-if : (parts : Parts) (found : Found) (bytes : List ℕ) (contents : Result (List Content) Damage) → Surveys parts bytes (Ok found) contents → found.kept ≡ true → due_of_contents parts contents ≡ Err stops.NotYet
+kept-if parts found bytes (Ok contents) h kept = ap (λ b. cond b (Err stops.NotYet) (due_of_tiles (meta_of parts (first_box contents)) (tiles_of parts contents))) (sym h.0.kept ∙ kept)
+kept-if parts found bytes (Err damage) h kept = absurd h.0
+
+kept-due : (parts : Parts) (found : Found) (runs : Option Runs) (extract : Option (List ℕ)) → AreSurveyed parts found extract → found.kept ≡ true → IfSome (option_map (due_of_extract parts) extract) (IsDue runs (Err stops.NotYet))
+kept-due parts found runs None h kept = tt
+kept-due parts found runs (Some bytes) h kept = kept-if parts found bytes (contents_of bytes) h kept
+
+-- the passes behind the survey find no damage
+none-if : (parts : Parts) (found : Found) (bytes : List ℕ) (damage : Damage) (contents : Result (List Content) Damage) → Surveys parts bytes (Ok found) contents → Gathers parts bytes found (Err (scan_stops.Damage damage)) → ⊥
+none-if parts found bytes damage (Ok contents) h gathers = gathers contents h.0
+none-if parts found bytes damage (Err before) h gathers = h.0
+
+none-due : (parts : Parts) (found : Found) (runs : Option Runs) (damage : Damage) (extract : Option (List ℕ)) → AreSurveyed parts found extract → IfSome extract (λ bytes. Gathers parts bytes found (Err (scan_stops.Damage damage)))
+    → IfSome (option_map (due_of_extract parts) extract) (IsDue runs (Err (stops.Damage damage)))
+none-due parts found runs damage None h gathers = tt
+none-due parts found runs damage (Some bytes) h gathers = absurd (none-if parts found bytes damage (contents_of bytes) h gathers)
 
 judged-map : (parts : Parts) (result : Result Totals Stop) (spool after : SpillSeen) (sink sink_after : SinkSeen) → MapCounts result spool after sink sink_after → IsJudged result (Ok parts)
 judged-map parts (Ok totals) o o' k k' h = tt
@@ -100,36 +129,14 @@ pub record ReadsParts (from : ProfileFrom) (p p' : SourceSeen) (parts : Parts) :
   pub alone : IsAlone from → p' ≡ p
 
 module _ (from : ProfileFrom) (p p' r : SourceSeen) (s o : SpillSeen) (k : SinkSeen) (parts : Parts) (q : ReadsParts from p p' parts) where
-  -- the profile isn't built yet
-  pub not-built : is_built parts ≡ false → BuildAnswers from (Causes.before p p' r r s o o k k) (Causes.after p p' r r s o o k k) (Err stops.NotYet)
-  not-built h = record {
-    told = due-not (parts_from from p.bytes) q.told;
-    judged = if-some (parts_from from p.bytes) _ (IsJudged (Err stops.NotYet)) (λ found is. subst (IsJudged (Err stops.NotYet)) (sym is) tt) q.told;
-    cause = Causes.all-stay p p' r r s o o k k q.faults refl refl refl;
-    never_falls = Causes.none-fell p p' r r s o o k k (same-le _ _ q.faults) (omega arith) (omega arith) (omega arith);
-    written = refl;
-    back = tt;
-    untouched = λ e. refl;
-    profile_bytes = q.bytes;
-    reader_bytes = refl;
-    alone = q.alone;
-    spills = refl;
-    kept = kept-self o.runs;
-    spool = λ e. refl;
-  }
-    where
-      due-not : (told : Option (Result Parts Fault)) → IfSome told (λ found. found ≡ Ok parts) → IfSome (due_by told r.bytes) (IsDue o.runs (Err stops.NotYet))
-      due-not None is = tt
-      due-not (Some found) is = subst (λ d. IfSome d (IsDue o.runs (Err stops.NotYet))) (sym (ap (λ f. due_of_profile f r.bytes) is ∙ ap (λ b. cond b (option_map (due_of_extract parts) r.bytes) (Some (Err stops.NotYet))) h)) refl
-
-  module _ (r' : SourceSeen) (built : is_built parts ≡ true) (bytes : r'.bytes ≡ r.bytes) where
+  module _ (r' : SourceSeen) (bytes : r'.bytes ≡ r.bytes) where
     -- the map is written, or it isn't
-    pub map-answers : (o' : SpillSeen) (k' : SinkSeen) (found : Found) (result : Result Totals Stop) → r'.faults ≡ r.faults → IfSome r.bytes (λ extract. Surveys parts (Ok found) (contents_of extract))
-        → ((due : Option Due) → IsKnown parts found due → MapWritten due o o' k k' result)
+    pub map-answers : (o' : SpillSeen) (k' : SinkSeen) (found : Found) (items : List RunItem) (box : Option Bounds) (result : Result Totals Stop) → r'.faults ≡ r.faults → AreSurveyed parts found r.bytes → found.kept ≡ false
+        → IfSome r.bytes (λ bytes. Gathers parts bytes found (Ok items)) → box ≡ unwrap_or found.header_box None → ((due : Option Due) → IsKnown parts items box due → MapWritten due o o' k k' result)
         → BuildAnswers from (Causes.before p p' r r' s o o' k k') (Causes.after p p' r r' s o o' k k') result
-    map-answers o' k' found result faults surveys writes =
+    map-answers o' k' found items box result faults surveys kept gathers is writes =
         let m : MapWritten (due_by (parts_from from p.bytes) r.bytes) o o' k k' result =
-        writes (due_by (parts_from from p.bytes) r.bytes) (on-due (parts_from from p.bytes) parts r.bytes (IsKnown parts found) q.told built tt (known parts found r.bytes surveys)) in
+        writes (due_by (parts_from from p.bytes) r.bytes) (on-due (parts_from from p.bytes) parts r.bytes (IsKnown parts items box) q.told tt (known parts found r.bytes items box surveys kept gathers is)) in
         let early = never-early result o o' k k' m.counts in
         record {
           told = m.told;
@@ -175,13 +182,32 @@ module _ (from : ProfileFrom) (p p' r : SourceSeen) (s o : SpillSeen) (k : SinkS
     damage-due damage None h = tt
     damage-due damage (Some bytes) h = ap (due_of_contents parts) h
 
-    pub survey-refused : (e : ScanStop) → Counted (survey_failed {A = Found} (Err e)) r.faults r'.faults → IfSome r.bytes (λ extract. Surveys parts (Err e) (contents_of extract))
+    pub survey-refused : (e : ScanStop) → Counted (survey_failed {A = Found} (Err e)) r.faults r'.faults → IfSome r.bytes (λ extract. Surveys parts extract (Err e) (contents_of extract))
         → BuildAnswers from (Causes.before p p' r r' s o o k k) (Causes.after p p' r r' s o o k k) (Err (stop_of_survey e))
     survey-refused (scan_stops.Damage damage) counts h =
         refused (stops.Damage damage)
-        (on-due (parts_from from p.bytes) parts r.bytes (λ due. IfSome due (IsDue o.runs (Err (stops.Damage damage)))) q.told built tt (damage-due damage r.bytes h)) tt
+        (on-due (parts_from from p.bytes) parts r.bytes (λ due. IfSome due (IsDue o.runs (Err (stops.Damage damage)))) q.told tt (damage-due damage r.bytes h)) tt
         (Causes.all-stay p p' r r' s o o k k q.faults counts refl refl) (same-le _ _ counts) refl refl
     survey-refused scan_stops.Failed counts h =
         refused (stops.Source (whom.Lane 0)) (nothing-due (due_by (parts_from from p.bytes) r.bytes)) tt (Causes.reader-rose p p' r r' s o o k k q.faults counts.0) counts.1 refl refl
     survey-refused scan_stops.Memory counts h =
+        refused stops.Memory (nothing-due (due_by (parts_from from p.bytes) r.bytes)) tt (Causes.all-stay p p' r r' s o o k k q.faults counts refl refl) (same-le _ _ counts) refl refl
+
+    -- a relation is kept, which isn't built yet
+    pub kept-refused : (found : Found) → r'.faults ≡ r.faults → AreSurveyed parts found r.bytes → found.kept ≡ true → BuildAnswers from (Causes.before p p' r r' s o o k k) (Causes.after p p' r r' s o o k k) (Err stops.NotYet)
+    kept-refused found counts h kept =
+        refused stops.NotYet
+        (on-due (parts_from from p.bytes) parts r.bytes (λ due. IfSome due (IsDue o.runs (Err stops.NotYet))) q.told tt (kept-due parts found o.runs r.bytes h kept)) tt
+        (Causes.all-stay p p' r r' s o o k k q.faults counts refl refl) (same-le _ _ counts) refl refl
+
+    -- a pass behind the survey is refused
+    pub pass-refused : (A : Type 0) (found : Found) (e : ScanStop) → Counted (survey_failed {A = A} (Err e)) r.faults r'.faults → AreSurveyed parts found r.bytes → IfSome r.bytes (λ extract. Gathers parts extract found (Err e))
+        → BuildAnswers from (Causes.before p p' r r' s o o k k) (Causes.after p p' r r' s o o k k) (Err (stop_of_survey e))
+    pass-refused A found (scan_stops.Damage damage) counts h gathers =
+        refused (stops.Damage damage)
+        (on-due (parts_from from p.bytes) parts r.bytes (λ due. IfSome due (IsDue o.runs (Err (stops.Damage damage)))) q.told tt (none-due parts found o.runs damage r.bytes h gathers)) tt
+        (Causes.all-stay p p' r r' s o o k k q.faults counts refl refl) (same-le _ _ counts) refl refl
+    pass-refused A found scan_stops.Failed counts h gathers =
+        refused (stops.Source (whom.Lane 0)) (nothing-due (due_by (parts_from from p.bytes) r.bytes)) tt (Causes.reader-rose p p' r r' s o o k k q.faults counts.0) counts.1 refl refl
+    pass-refused A found scan_stops.Memory counts h gathers =
         refused stops.Memory (nothing-due (due_by (parts_from from p.bytes) r.bytes)) tt (Causes.all-stay p p' r r' s o o k k q.faults counts refl refl) (same-le _ _ counts) refl refl

@@ -1,5 +1,5 @@
 -- The counts of the objects of a build on one lane, before and after: which rose, and which are as they were.
-use Rattle.std.proofs.Common.{◌≡◌, ℕ, zero, suc, ◌≤◌, ◌<◌, Bool, true, false, Option, Some, List, [], ◌∷◌, refl, sym, arith, true≢false}
+use Rattle.std.proofs.Common.{◌≡◌, zero, suc, ◌≤◌, true, [], ◌∷◌, refl, sym, arith, true≢false}
 use Rattle.tb_types.specs.Counts.{Rose}
 use Rattle.tb_types.specs.declared.trouble.Whom.{Whom}
 use Rattle.tb_types.specs.declared.trouble.Whom.TheVariants.{Profile, Lane, Spool, Archive, Console}

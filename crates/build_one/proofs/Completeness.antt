@@ -1,6 +1,5 @@
 -- Where no count rose, a build's answer is what is due, or memory wants.
 use Rattle.std.proofs.Common.{◌≡◌, ◌⊎◌, inl, inr, Option, None, Some, IfSome, Result, Ok, Err, refl}
-use Rattle.tb_types.specs.declared.trouble.Whom.{Whom}
 use Rattle.tb_types.specs.declared.trouble.Whom.TheVariants as whom
 use Rattle.build_one.specs.declared.from.ProfileFrom.{ProfileFrom}
 use Rattle.build_one.specs.declared.stop.Stop.{Stop}

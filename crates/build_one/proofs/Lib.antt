@@ -5,12 +5,12 @@ pub mod Boxes
 pub mod Builds
 pub mod Causes
 pub mod Completeness
-pub mod Gaining
+pub mod Loading
 pub mod MapDue
+pub mod Gathering
 pub mod Metas
-pub mod Points
-pub mod Ranges
-pub mod Ranging
+pub mod Passes
+pub mod Passing
 pub mod Surveying
 pub mod Takes
 pub mod Texts

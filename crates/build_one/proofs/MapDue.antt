@@ -1,10 +1,8 @@
 -- The map that is written is the one that is due.
-use Rattle.std.proofs.Common.{◌≡◌, ℕ, ◌≤◌, ◌<◌, ◌^◌, Bool, true, false, cond, Option, None, Some, IfSome, IfOk, OnOk, Result, Ok, Err, List, [], ◌∷◌, length, map, slice_get, unwrap_or, refl, sym, ap, subst, ◌∙◌, arith, inl, inr}
+use Rattle.std.proofs.Common.{◌≡◌, ℕ, ◌≤◌, ◌<◌, ◌^◌, true, false, cond, Option, None, Some, IfSome, Result, Ok, Err, List, length, refl, sym, ap, subst, ◌∙◌, arith, inl, inr}
 use Rattle.std.specs.List.Sorted.{IsPermutation}
-use Rattle.std.proofs.lemmas.List.Elements.{All-weaker}
 use Rattle.std.proofs.lemmas.List.Sorted.{IsPermutation-refl, IsPermutation-trans}
 use Rattle.tb_types.specs.declared.location.Bounds.{Bounds}
-use Rattle.tb_types.specs.declared.damage.Damage.{Damage}
 use Rattle.tb_outside.specs.Spill.{SpillSeen, Runs}
 use Rattle.tb_types.specs.Counts.{Rose}
 use Rattle.tb_outside.specs.Sink.{SinkSeen, with_more, GrowsByPrefix}
@@ -24,46 +22,39 @@ use Rattle.pmtiles_file.specs.Finished.{FinishAnswers}
 use Rattle.pmtiles_file.specs.Finished as finished
 use Rattle.pmtiles_file.specs.Spool.{KeepsEnded}
 use Rattle.pmtiles_file.specs.Writing.{WriterSeen}
-use Rattle.tile_model.specs.BuildLaws.{IsWithin}
-use Rattle.tile_model.specs.Features.{Feature, name_of}
+use Rattle.tile_model.specs.Features.{name_of}
 use Rattle.tile_model.specs.Keys.{tile_of}
 use Rattle.tile_model.specs.Tiles.{built_tiles, built_items, emitted_items}
 use Rattle.tile_model.proofs.Proved as laws
-use Rattle.build_one.specs.declared.found.Found.{Found}
+use Rattle.osm_elements.specs.declared.element.Block.{Block}
 use Rattle.build_one.specs.declared.stop.Stop.{Stop}
 use Rattle.build_one.specs.declared.stop.Stop.TheVariants as stops
 use Rattle.build_one.specs.declared.stop.TileStop.{TileStop}
 use Rattle.build_one.specs.declared.stop.TileStop.TheVariants as tile_stops
-use Rattle.build_one.specs.Answers.{OnBuilt, IfTold, IsDue, Writes, ReadsBack}
-use Rattle.build_one.specs.Bounds.{boxes_in, first_box}
-use Rattle.build_one.specs.Contents.{Content}
-use Rattle.build_one.specs.Due.{Due, Built, due_of_contents, due_of_tiles, built_of}
-use Rattle.build_one.specs.Found.{HasContents}
-use Rattle.build_one.specs.Made.{IsKnown, MapCounts, MapWritten}
-use Rattle.build_one.specs.Map.{features_of, layer_names, tile_from, tiles_from, tiles_of, has_giant, meta_of}
+use Rattle.build_one.specs.Answers.{OnBuilt, IfTold}
+use Rattle.tile_model.specs.Bounds.{first_box}
+use Rattle.tile_model.specs.Extract.{features_of}
+use Rattle.build_one.specs.Due.{Due, Built, due_of_tiles, built_of}
+use Rattle.build_one.specs.Made.{IsDueBy, IsKnown, MapWritten}
+use Rattle.tile_model.specs.Map.{blocks_in, layer_names, tile_from, tiles_from, tiles_of, has_giant, meta_of}
 use Rattle.build_one.specs.Stops.{stop_of_tiles, stop_of_archive}
-use Rattle.build_one.specs.Writing.{Ordered, HasTiles, HasGiant, MapAnswers, SpoolAnswers, TileCounts, tiles_in}
+use Rattle.build_one.specs.Writing.{Ordered, HasGiant, MapAnswers, tiles_in}
 use Rattle.build_one.proofs.Backs.{few-built}
-use Rattle.build_one.proofs.Ranges.{all-within}
+use Rattle.tile_model.proofs.Ranges.{all-within}
 use Rattle.build_one.proofs.Tiling.{kept-self, kept-both}
 
 -- items in order, grouped by tile, are the tiles of the features
-grouped-built : (parts : Parts) (contents : List Content) (found : Found) → IsSound parts → HasContents parts found contents → KeysDiffer name_of (features_of parts contents) → (o : Ordered found.items.items)
-    → grouped_by tile_of o.sorted ≡ built_tiles (features_of parts contents) parts.min parts.max
-grouped-built parts contents found sound has differ o =
-    let features = features_of parts contents in
+grouped-built : (parts : Parts) (blocks : List (ℕ × Block)) (items : List RunItem) → IsSound parts → IsPermutation (emitted_items (features_of parts blocks)) items → KeysDiffer name_of (features_of parts blocks) → (o : Ordered items)
+    → grouped_by tile_of o.sorted ≡ built_tiles (features_of parts blocks) parts.min parts.max
+grouped-built parts blocks items sound has differ o =
+    let features = features_of parts blocks in
     let few : parts.max ≤ 26 = let last = sound.last in omega (arith, last) in
     let built : IsPermutation (built_items features parts.min parts.max) (emitted_items features) =
-    laws.build.emitted features features parts.min parts.max few (all-within parts contents sound) (IsPermutation-refl features) in
-    laws.build.grouped features parts.min parts.max o.sorted few differ (IsPermutation-trans _ _ _ built (IsPermutation-trans _ _ _ has.0 o.same)) o.rises
+    laws.build.emitted features features parts.min parts.max few (all-within parts blocks sound) (IsPermutation-refl features) in
+    laws.build.grouped features parts.min parts.max o.sorted few differ (IsPermutation-trans _ _ _ built (IsPermutation-trans _ _ _ has o.same)) o.rises
 
-tiles-are : (parts : Parts) (contents : List Content) (found : Found) → IsSound parts → HasContents parts found contents → KeysDiffer name_of (features_of parts contents) → (o : Ordered found.items.items)
-    → tiles_in (layer_names parts) o.sorted ≡ tiles_of parts contents
-tiles-are parts contents found sound has differ o = ap (tiles_from (layer_names parts)) (grouped-built parts contents found sound has differ o)
-
--- the box of what was found is that of the contents
-pub box-is : (parts : Parts) (contents : List Content) (found : Found) → HasContents parts found contents → unwrap_or found.header_box None ≡ first_box contents
-box-is parts contents found has = ap (λ box. unwrap_or box None) has.1
+tiles-are : (parts : Parts) (items : List RunItem) (box : Option Bounds) (due : Due) → IsSound parts → (by : IsDueBy parts items box due) → (o : Ordered items) → tiles_in (layer_names parts) o.sorted ≡ tiles_of parts by.contents
+tiles-are parts items box due sound by o = ap (tiles_from (layer_names parts)) (grouped-built parts (blocks_in by.contents) items sound by.same by.names o)
 
 -- what is due where a tile is too large, and where none is
 due-giant : (meta : Meta) (tiles : List Tile) → has_giant tiles ≡ true → due_of_tiles meta tiles ≡ Err stops.NotYet
@@ -77,13 +68,9 @@ if-told : (runs : Option Runs) (P : Type 0) → ((told : Runs) → runs ≡ Some
 if-told None P f = tt
 if-told (Some told) P f = f told refl
 
--- it is due by these contents
-abbrev IsDueBy : Parts → Found → Due → Type 0
-IsDueBy parts found due = (contents : List Content) × (due ≡ due_of_contents parts (Ok contents)) × HasContents parts found contents × KeysDiffer name_of (features_of parts contents)
-
-if-due : (parts : Parts) (found : Found) (due : Option Due) (P : Due → Type 0) → IsKnown parts found due → ((d : Due) → IsDueBy parts found d → P d) → IfSome due P
-if-due parts found None P known f = tt
-if-due parts found (Some d) P known f = f d known
+if-due : (parts : Parts) (items : List RunItem) (box : Option Bounds) (due : Option Due) (P : Due → Type 0) → IsKnown parts items box due → ((d : Due) → IsDueBy parts items box d → P d) → IfSome due P
+if-due parts items box None P known f = tt
+if-due parts items box (Some d) P known f = f d known
 
 any-due : (due : Option Due) → IfSome due (λ d. Unit {0})
 any-due None = tt
@@ -106,17 +93,16 @@ abbrev pub IsFinished : Result Totals FinishErr → Result Totals Stop → Type 
 IsFinished (Ok totals) s = s ≡ Ok totals
 IsFinished (Err e) s = s ≡ Err (stop_of_archive e)
 
-module _ (parts : Parts) (found : Found) (sound : IsSound parts) where
-  giant-due : HasGiant parts found.items.items → (d : Due) → IsDueBy parts found d → d ≡ Err stops.NotYet
+module _ (parts : Parts) (items : List RunItem) (box : Option Bounds) (sound : IsSound parts) where
+  giant-due : HasGiant parts items → (d : Due) → IsDueBy parts items box d → d ≡ Err stops.NotYet
   giant-due giant d by =
-      by.1 ∙ due-giant (meta_of parts (first_box by.0)) (tiles_of parts by.0)
-      (ap has_giant (sym (tiles-are parts by.0 found sound by.2 by.3 giant.order)) ∙ giant.giant)
+      by.is ∙ due-giant (meta_of parts (first_box by.contents)) (tiles_of parts by.contents) (ap has_giant (sym (tiles-are parts items box d sound by giant.order)) ∙ giant.giant)
 
   -- the tiles weren't written
-  pub map-refused : (meta : Meta) (due : Option Due) (spool after : SpillSeen) (sink : SinkSeen) (e : TileStop) → MapAnswers parts meta found.items.items spool after (Err e) → IsKnown parts found due
+  pub map-refused : (meta : Meta) (due : Option Due) (spool after : SpillSeen) (sink : SinkSeen) (e : TileStop) → MapAnswers parts meta items spool after (Err e) → IsKnown parts items box due
       → MapWritten due spool after sink sink (Err (stop_of_tiles e))
   map-refused meta due spool after sink tile_stops.TooLarge a known = record {
-    told = if-due parts found due (λ d. d ≡ Err stops.NotYet) known (giant-due (a.giant refl));
+    told = if-due parts items box due (λ d. d ≡ Err stops.NotYet) known (giant-due (a.giant refl));
     written = refl;
     back = tt;
     counts = (a.spool.counts, refl);
@@ -143,25 +129,25 @@ module _ (parts : Parts) (found : Found) (sound : IsSound parts) where
     sink_never_falls = omega arith;
   }
 
-  module _ (meta : Meta) (box : meta ≡ meta_of parts (unwrap_or found.header_box None)) (due : Option Due) (known : IsKnown parts found due) (spool mid after : SpillSeen) (sink sink_after : SinkSeen)
-      (w : WriterSeen) (a : MapAnswers parts meta found.items.items spool mid (Ok w)) where
+  module _ (meta : Meta) (meta_is : meta ≡ meta_of parts box) (due : Option Due) (known : IsKnown parts items box due) (spool mid after : SpillSeen) (sink sink_after : SinkSeen)
+      (w : WriterSeen) (a : MapAnswers parts meta items spool mid (Ok w)) where
     -- what was written, by contents of which this was found
-    abbrev by-meta : (d : Due) (by : IsDueBy parts found d) → w.meta ≡ meta_of parts (first_box by.0)
-    by-meta d by = a.ok.meta_is ∙ (box ∙ ap (meta_of parts) (box-is parts by.0 found by.2))
+    abbrev by-meta : (d : Due) (by : IsDueBy parts items box d) → w.meta ≡ meta_of parts (first_box by.contents)
+    by-meta d by = a.ok.meta_is ∙ (meta_is ∙ ap (meta_of parts) by.box_is)
 
-    abbrev by-tiles : (d : Due) (by : IsDueBy parts found d) → tiles_in (layer_names parts) a.ok.order.sorted ≡ tiles_of parts by.0
-    by-tiles d by = tiles-are parts by.0 found sound by.2 by.3 a.ok.order
+    abbrev by-tiles : (d : Due) (by : IsDueBy parts items box d) → tiles_in (layer_names parts) a.ok.order.sorted ≡ tiles_of parts by.contents
+    by-tiles d by = tiles-are parts items box d sound by a.ok.order
 
-    is-built : (d : Due) (by : IsDueBy parts found d) → d ≡ Ok (built_of w.meta (tiles_in (layer_names parts) a.ok.order.sorted))
+    is-built : (d : Due) (by : IsDueBy parts items box d) → d ≡ Ok (built_of w.meta (tiles_in (layer_names parts) a.ok.order.sorted))
     is-built d by =
-        by.1 ∙ (ap (λ m. due_of_tiles m (tiles_of parts by.0)) (sym (by-meta d by)) ∙ (ap (due_of_tiles w.meta) (sym (by-tiles d by)) ∙ due-built w.meta (tiles_in (layer_names parts) a.ok.order.sorted) a.ok.small))
+        by.is ∙ (ap (λ m. due_of_tiles m (tiles_of parts by.contents)) (sym (by-meta d by)) ∙ (ap (due_of_tiles w.meta) (sym (by-tiles d by)) ∙ due-built w.meta (tiles_in (layer_names parts) a.ok.order.sorted) a.ok.small))
 
     on-built : (P : Built → Type 0) → P (built_of w.meta (tiles_in (layer_names parts) a.ok.order.sorted)) → IfSome due (λ d. OnBuilt d P)
-    on-built P h = if-due parts found due (λ d. OnBuilt d P) known (λ d by. subst (λ x. OnBuilt x P) (sym (is-built d by)) h)
+    on-built P h = if-due parts items box due (λ d. OnBuilt d P) known (λ d by. subst (λ x. OnBuilt x P) (sym (is-built d by)) h)
 
-    few : (d : Due) (by : IsDueBy parts found d) → length (entries_of (tiles_in (layer_names parts) a.ok.order.sorted)) < 2 ^ 35
+    few : (d : Due) (by : IsDueBy parts items box d) → length (entries_of (tiles_in (layer_names parts) a.ok.order.sorted)) < 2 ^ 35
     few d by =
-        subst (λ ts. length (entries_of ts) < 2 ^ 35) (sym (by-tiles d by)) (few-built (features_of parts by.0) parts.min parts.max (tile_from (layer_names parts)) sound.ordered sound.last)
+        subst (λ ts. length (entries_of ts) < 2 ^ 35) (sym (by-tiles d by)) (few-built (features_of parts (blocks_in by.contents)) parts.min parts.max (tile_from (layer_names parts)) sound.ordered sound.last)
 
     abbrev tiles : List Tile
     tiles = tiles_in (layer_names parts) a.ok.order.sorted
@@ -180,7 +166,7 @@ module _ (parts : Parts) (found : Found) (sound : IsSound parts) where
     map-ok totals f = record {
       told = on-built (λ built. IfTold spool.runs (totals ≡ built.totals)) (if-told spool.runs _ (λ told is. let h = a.ok.wrote told is in f.totals h.runs tiles h.told h.wrote));
       written = if-told spool.runs _ (λ told is. on-built (λ built. sink_after.bytes ≡ with_more sink.bytes built.bytes) (prefix-told (Ok totals) f told is));
-      back = if-told spool.runs _ (λ told is. if-due parts found due (λ d. OnBuilt d (λ built. read_back built.bytes ≡ Some built.tiles)) known
+      back = if-told spool.runs _ (λ told is. if-due parts items box due (λ d. OnBuilt d (λ built. read_back built.bytes ≡ Some built.tiles)) known
           (λ d by. subst (λ x. OnBuilt x (λ built. read_back built.bytes ≡ Some built.tiles)) (sym (is-built d by)) (let h = a.ok.wrote told is in f.back h.runs tiles h.told h.wrote (few d by))));
       counts = (f.counts.0 ∙ a.spool.counts, f.counts.1);
       kept = both-kept (Ok totals) f;

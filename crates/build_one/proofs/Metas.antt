@@ -6,7 +6,7 @@ use Rattle.profile_rules.specs.declared.parts.LayerInfo.{LayerInfo}
 use Rattle.profile_rules.specs.declared.parts.Parts.{Parts}
 use Rattle.profile_rules.specs.Fields.{layers_of}
 use Rattle.pmtiles_dirs.specs.declared.meta.MetaLayer.{MetaLayer}
-use Rattle.build_one.specs.Map.{meta_layer}
+use Rattle.tile_model.specs.Map.{meta_layer}
 
 numbered-last : {A : Type 0} (n : ℕ) (xs : List A) (x : A) → enumerate_from n (xs ++ x ∷ []) ≡ enumerate_from n xs ++ (n + length xs, x) ∷ []
 numbered-last n [] x = let same : n + 0 ≡ n = omega arith in rw same refl

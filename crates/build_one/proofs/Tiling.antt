@@ -1,13 +1,11 @@
 -- The walk over items in order: the tiles written so far, the items of the tile that isn't closed yet, and those to come.
-use Rattle.std.proofs.Common.{◌≡◌, ◌≢◌, ℕ, zero, suc, ◌+◌, ◌<◌, ◌≤◌, ◌^◌, ◌==◌, ◌||◌, not, nat_le, Bool, true, false, Option, None, Some, OnOk, Result, Ok, Err, List, [], ◌∷◌, ◌++◌, length, map, All, refl, sym, ap, subst, ◌∙◌, arith, append_assoc}
-use Rattle.std.proofs.lemmas.Bool.{leb-true}
+use Rattle.std.proofs.Common.{◌≡◌, ◌≢◌, ℕ, ◌+◌, ◌<◌, ◌≤◌, ◌^◌, ◌==◌, ◌||◌, nat_le, Bool, true, false, Option, None, Some, OnOk, Result, Ok, Err, List, [], ◌∷◌, ◌++◌, length, All, refl, sym, ap, subst, ◌∙◌, arith, append_assoc}
 use Rattle.std.proofs.lemmas.Bool.Decides.{nat_tests}
 use Rattle.std.proofs.lemmas.List.{append-nil, map-append}
 use Rattle.std.proofs.lemmas.List.Elements.{All-from_recursion, recursion_from_All}
 use Rattle.std.specs.Prelude.{⊤}
 use Rattle.std.specs.List.{AllByRecursion, list_any}
 use Rattle.std.specs.List.Sorted.{IsSortedBy}
-use Rattle.tb_types.specs.Counts.{Rose}
 use Rattle.tb_outside.specs.Spill.{SpillSeen, Runs}
 use Rattle.sorted_lists.specs.Grouping.{grouped_by}
 use Rattle.sorted_lists.specs.Merging.{OnFirst}
@@ -17,13 +15,13 @@ use Rattle.sorted_lists.proofs.Proved as lists
 use Rattle.mvt_codec.specs.declared.item.RunItem.{RunItem}
 use Rattle.pmtiles_dirs.specs.Contents.{Tile}
 use Rattle.pmtiles_file.specs.Spool.{KeepsEnded, HasKept}
-use Rattle.pmtiles_file.specs.Writing.{WriterSeen, Wrote, RunsStand, next_id}
+use Rattle.pmtiles_file.specs.Writing.{WriterSeen, RunsStand, next_id}
 use Rattle.tile_model.specs.Keys.{item_less, tile_of}
 use Rattle.tile_model.proofs.KeyOrder.{item_order, tile_first}
 use Rattle.build_one.specs.declared.stop.TileStop.{TileStop}
 use Rattle.build_one.specs.declared.stop.TileStop.TheVariants as stops
-use Rattle.build_one.specs.Items.{IsSoundItem}
-use Rattle.build_one.specs.Map.{tile_from, tiles_from, is_giant, has_giant}
+use Rattle.tile_model.specs.Items.{IsSoundItem}
+use Rattle.tile_model.specs.Map.{tile_from, tiles_from, is_giant, has_giant}
 use Rattle.build_one.specs.Writing.{tiles_in, first_tile, AreOfOneTile, begins_tile, HasWrote, Writes, TileCounts, SpoolAnswers, TileAnswers, ClosesIf, TilesAnswers}
 
 module _ {X : Type 0} where

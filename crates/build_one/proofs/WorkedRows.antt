@@ -1,5 +1,5 @@
 -- The worked cases, by computing.
-use Rattle.std.proofs.Common.{◌≡◌, None, Some, Ok, [], ◌∷◌, ◌++◌, length, codes, refl}
+use Rattle.std.proofs.Common.{◌≡◌, None, Ok, [], ◌∷◌, ◌++◌, codes, refl}
 use Rattle.std.specs.Str.{is_utf8, chars}
 use lib.Utf8.{encode}
 use Rattle.tb_wire.specs.Varint.{varint, encoding}
@@ -16,7 +16,7 @@ use Rattle.osm_elements.specs.Block.{group_of, elements_of, block_of}
 use Rattle.int_mercator.specs.Cosine.{series, cosine_of}
 use Rattle.int_mercator.specs.Quarter.{secant_of, height_of, entry_of, quarter}
 use Rattle.int_mercator.specs.Places.{x_of, north_of, y_of, world_of, grid_of}
-use Rattle.build_one.specs.Contents.{header, contents_of}
+use Rattle.tile_model.specs.Contents.{header, contents_of}
 use Rattle.profile_rules.specs.OneRule.{one_rule_of, nodes_id}
 use Rattle.profile_rules.specs.Top.{usual_name}
 use Rattle.strip_clip.specs.Cuts.{cut_of}
@@ -25,7 +25,7 @@ use Rattle.mvt_codec.specs.Groups.{layers_of}
 use Rattle.mvt_codec.specs.Tile.{feature_text, layer_text}
 use Rattle.mvt_codec.specs.Value.{number_text, value_text}
 use Rattle.tile_model.specs.Tiles.{tiles_between}
-use Rattle.build_one.specs.Map.{meta_of, tiles_of}
+use Rattle.tile_model.specs.Map.{meta_of, tiles_of}
 use Rattle.build_one.proofs.WorkedArchives.{without_tile, with_cafe, of_shops}
 use Rattle.build_one.specs.Worked.{WorkedRows, header_frame, cafe_frame, compressed_header, cafe_contents, cafe_tiles, key_meta, damage_in}
 

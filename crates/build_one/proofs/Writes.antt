@@ -1,9 +1,9 @@
 -- The tiles of items in order are those of the items.
-use Rattle.std.proofs.Common.{◌≡◌, ℕ, ◌<◌, Result, Ok, Err, IfOk, List, [], ◌++◌, length, take, drop, map, All, refl, sym, ap, subst, ◌∙◌, arith}
+use Rattle.std.proofs.Common.{◌≡◌, ℕ, Result, Ok, Err, List, [], ◌++◌, length, take, drop, All, refl, sym, ap, subst, ◌∙◌, arith}
 use Rattle.std.proofs.lemmas.List.{append-nil, take_all, length-map}
 use Rattle.std.proofs.Math.ListN.{drop_of_length-le}
 use Rattle.std.specs.List.Sorted.{IsSortedBy, IsPermutation}
-use Rattle.tb_outside.specs.Spill.{SpillSeen, Runs}
+use Rattle.tb_outside.specs.Spill.{SpillSeen}
 use Rattle.profile_rules.specs.declared.parts.LayerInfo.{LayerInfo}
 use Rattle.profile_rules.specs.declared.parts.Parts.{Parts}
 use Rattle.profile_rules.specs.Fields.{layers_of}
@@ -13,9 +13,9 @@ use Rattle.pmtiles_file.specs.Writing.{WriterSeen, Wrote}
 use Rattle.tile_model.specs.Keys.{item_less}
 use Rattle.build_one.specs.declared.stop.TileStop.{TileStop}
 use Rattle.build_one.specs.declared.stop.TileStop.TheVariants as stops
-use Rattle.build_one.specs.Items.{IsSoundItem}
-use Rattle.build_one.specs.Map.{layer_names}
-use Rattle.build_one.specs.Writing.{Ordered, TilesAnswers, HasTiles, HasGiant, MapAnswers}
+use Rattle.tile_model.specs.Items.{IsSoundItem}
+use Rattle.tile_model.specs.Map.{layer_names}
+use Rattle.build_one.specs.Writing.{Ordered, TilesAnswers, MapAnswers}
 
 -- what a borrowed list left in place of another of its length
 pub left-in-place : {X : Type 0} (xs new : List X) (len : ℕ) → len ≡ length xs → length new ≡ length xs → take len (new ++ drop (length new) xs) ≡ new

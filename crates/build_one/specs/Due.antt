@@ -1,9 +1,8 @@
 -- What is due for a build: the archive that its profile and its extract give, or why there is none.
-use Rattle.std.specs.Prelude.{ℕ, Option, None, Some, option_map, option_and_then, Result, Ok, Err, List, length, Bool, if◌then◌else◌}
+use Rattle.std.specs.Prelude.{ℕ, Option, Some, option_map, option_and_then, Result, Ok, Err, List, length, if◌then◌else◌}
 use Rattle.tb_types.specs.declared.damage.Damage.{Damage}
 use Rattle.profile_rules.specs.declared.parts.Parts.{Parts}
 use Rattle.profile_rules.specs.Faults.{Fault}
-use Rattle.profile_rules.specs.Fields.{has_points_only}
 use Rattle.profile_rules.specs.OneRule.{one_rule_of}
 use Rattle.profile_rules.specs.Profile.{profile_of}
 use Rattle.pmtiles_dirs.specs.declared.meta.Meta.{Meta}
@@ -16,9 +15,10 @@ use Rattle.build_one.specs.declared.from.ProfileFrom.TheVariants as profiles
 use Rattle.build_one.specs.declared.stop.Stop.{Stop}
 use Rattle.build_one.specs.declared.stop.Stop.TheVariants as stops
 use Rattle.build_one.specs.Objects.{Objects, extract_in}
-use Rattle.build_one.specs.Contents.{Content, contents_of}
-use Rattle.build_one.specs.Bounds.{first_box}
-use Rattle.build_one.specs.Map.{tiles_of, has_giant, meta_of}
+use Rattle.tile_model.specs.Contents.{Content, contents_of}
+use Rattle.tile_model.specs.Bounds.{first_box}
+use Rattle.tile_model.specs.Extract.{has_kept}
+use Rattle.tile_model.specs.Map.{blocks_in, tiles_of, has_giant, meta_of}
 
 -- an archive: its tiles, what it holds, and its bytes
 pub record Built : Type 0 where
@@ -41,22 +41,22 @@ built_of meta tiles = record { tiles = tiles; totals = totals_of meta tiles; byt
 abbrev pub due_of_tiles : Meta → List Tile → Due
 due_of_tiles meta tiles = if has_giant tiles then Err stops.NotYet else Ok (built_of meta tiles)
 
+-- relations aren't built yet
+abbrev pub due_of_blocks : Parts → List Content → Due
+due_of_blocks parts contents = if has_kept parts (blocks_in contents) then Err stops.NotYet else due_of_tiles (meta_of parts (first_box contents)) (tiles_of parts contents)
+
 abbrev pub due_of_contents : Parts → Result (List Content) Damage → Due
-due_of_contents parts (Ok contents) = due_of_tiles (meta_of parts (first_box contents)) (tiles_of parts contents)
+due_of_contents parts (Ok contents) = due_of_blocks parts contents
 due_of_contents parts (Err damage) = Err (stops.Damage damage)
 
--- what is due for an extract by a profile that is built
+-- what is due for an extract by a profile
 abbrev pub due_of_extract : Parts → List ℕ → Due
 due_of_extract parts extract = due_of_contents parts (contents_of extract)
 
--- points alone are built yet
-abbrev pub is_built : Parts → Bool
-is_built parts = has_points_only parts
-
--- what is due by a profile and an extract, if it is told: a profile that is refused or not built yet needs none
+-- what is due by a profile and an extract, if it is told: a profile that is refused needs none
 abbrev pub due_of_profile : Result Parts Fault → Option (List ℕ) → Option Due
 due_of_profile (Err fault) extract = Some (Err (stops.Profile fault.0 fault.1))
-due_of_profile (Ok parts) extract = if is_built parts then option_map (due_of_extract parts) extract else Some (Err stops.NotYet)
+due_of_profile (Ok parts) extract = option_map (due_of_extract parts) extract
 
 -- the profile, where its text is told: that of a key needs none
 abbrev pub parts_from : ProfileFrom → Option (List ℕ) → Option (Result Parts Fault)

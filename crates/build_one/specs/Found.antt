@@ -1,31 +1,47 @@
 -- What the code has found of the blocks so far is what they hold.
-use Rattle.std.specs.Prelude.{◌≡◌, Option, None, Some, IfSome, Result, Ok, Err, OnOk, ⊤, List, [], ◌∷◌, ◌++◌, flat_map, slice_get}
-use Rattle.std.specs.List.Sorted.{IsPermutation}
+use Rattle.std.specs.Prelude.{◌≡◌, ℕ, Bool, true, false, ◌||◌, Option, None, Some, IfSome, Result, Ok, Err, OnOk, ⊤, List, [], ◌∷◌, ◌++◌, filter, flat_map, slice_get, All}
+use Rattle.std.specs.List.{list_any}
 use Rattle.tb_types.specs.declared.damage.Damage.{Damage}
 use Rattle.tb_types.specs.declared.location.Bounds.{Bounds}
-use Rattle.osm_elements.specs.Header.{is_valid}
+use Rattle.pbf_blobs.specs.declared.block.BlockAt.{BlockAt}
+use Rattle.pbf_blobs.specs.declared.block.BlockKind.TheVariants as kinds
+use Rattle.osm_elements.specs.declared.element.Block.{Block}
+use Rattle.osm_elements.specs.Kinds.{has_any}
 use Rattle.profile_rules.specs.declared.parts.Parts.{Parts}
 use Rattle.pmtiles_dirs.specs.Bounds.{CanBeWritten}
-use Rattle.tile_model.specs.Tiles.{emitted_items}
+use Rattle.tile_model.specs.Bounds.{boxes_in}
+use Rattle.tile_model.specs.Contents.{Content, header, elements, unread, contents_at}
+use Rattle.tile_model.specs.Extract.{has_kept, is_kept}
+use Rattle.tile_model.specs.Map.{blocks_in}
 use Rattle.build_one.specs.declared.found.Found.{Found}
-use Rattle.build_one.specs.Contents.{Content}
-use Rattle.build_one.specs.Bounds.{boxes_in}
-use Rattle.build_one.specs.Map.{features_of}
-use Rattle.build_one.specs.Items.{AreSound}
 
--- the items of all features by a profile, in any order, and what the first header says of its box
-abbrev pub HasContents : Parts → Found → List Content → Type 0
-HasContents parts f contents = IsPermutation (emitted_items (features_of parts contents)) f.items.items × (f.header_box ≡ slice_get (flat_map boxes_in contents) 0)
+-- a block has nodes, or ways
+abbrev pub has_nodes : Content → Bool
+has_nodes (header box) = false
+has_nodes (elements number block) = has_any block.nodes
+has_nodes unread = false
+
+abbrev pub has_ways : Content → Bool
+has_ways (header box) = false
+has_ways (elements number block) = has_any block.ways
+has_ways unread = false
+
+-- What is found of blocks that hold this: the box of the first header, whether a relation is kept, and which blocks have nodes and ways.
+pub record HasSurveyed (parts : Parts) (extract : List ℕ) (f : Found) (contents : List Content) : Type 0 where
+  pub box : f.header_box ≡ slice_get (flat_map boxes_in contents) 0
+  pub kept : f.kept ≡ has_kept parts (blocks_in contents)
+  pub nodes : contents_at extract f.nodes.items ≡ Ok (filter has_nodes contents)
+  pub ways : contents_at extract f.ways.items ≡ Ok (filter has_ways contents)
 
 -- these, or the damage
-abbrev pub Holds : Parts → Found → Result (List Content) Damage → Type 0
-Holds parts f (Ok contents) = (f.damage ≡ None) × HasContents parts f contents
-Holds parts f (Err damage) = f.damage ≡ Some damage
+abbrev pub Holds : Parts → List ℕ → Found → Result (List Content) Damage → Type 0
+Holds parts extract f (Ok contents) = (f.damage ≡ None) × HasSurveyed parts extract f contents
+Holds parts extract f (Err damage) = f.damage ≡ Some damage
 
 -- the same where there is no damage
-abbrev pub HasFound : Parts → Found → Result (List Content) Damage → Type 0
-HasFound parts f (Ok contents) = HasContents parts f contents
-HasFound parts f (Err damage) = ⊥
+abbrev pub HasFound : Parts → List ℕ → Found → Result (List Content) Damage → Type 0
+HasFound parts extract f (Ok contents) = HasSurveyed parts extract f contents
+HasFound parts extract f (Err damage) = ⊥
 
 -- what a block holds, behind what those before it do
 abbrev pub joined : Result (List Content) Damage → Result Content Damage → Result (List Content) Damage
@@ -34,14 +50,38 @@ joined (Ok contents) (Err damage) = Err damage
 joined (Err damage) more = Err damage
 
 -- a call takes up what a block holds, whatever was found before
-abbrev pub Takes : {E : Type 0} → Parts → Found → Found → Result ⊤ E → Result Content Damage → Type 0
-Takes parts old new result more = (so_far : Result (List Content) Damage) → Holds parts old so_far → OnOk result (Holds parts new (joined so_far more))
+abbrev pub Takes : {E : Type 0} → Parts → List ℕ → Found → Found → Result ⊤ E → Result Content Damage → Type 0
+Takes parts extract old new result more = (so_far : Result (List Content) Damage) → Holds parts extract old so_far → OnOk result (Holds parts extract new (joined so_far more))
+
+-- another one behind some, if that is said
+abbrev pub with_if : {A : Type 0} → Bool → List A → A → List A
+with_if false xs x = xs
+with_if true xs x = xs ++ x ∷ []
+
+-- what is noted of a block of elements
+pub record Notes (parts : Parts) (block : BlockAt) (content : Block) (old new : Found) : Type 0 where
+  pub nodes : new.nodes.items ≡ with_if (has_any content.nodes) old.nodes.items block
+  pub ways : new.ways.items ≡ with_if (has_any content.ways) old.ways.items block
+  pub kept : new.kept ≡ (old.kept || list_any (is_kept parts) content.relations)
+  pub box : new.header_box ≡ old.header_box
+  pub damage : new.damage ≡ old.damage
+
+-- at most this block comes behind those that were found to have nodes, or ways
+pub record Steps (block : BlockAt) (old new : Found) : Type 0 where
+  pub nodes_more : Bool
+  pub nodes : new.nodes.items ≡ with_if nodes_more old.nodes.items block
+  pub ways_more : Bool
+  pub ways : new.ways.items ≡ with_if ways_more old.ways.items block
 
 -- the box that was found can be written
 abbrev pub IsReadyBox : Option (Option Bounds) → Type 0
 IsReadyBox found = IfSome found (λ box. IfSome box CanBeWritten)
 
--- items and box are ready for tiles and an archive
-pub record IsReady (parts : Parts) (f : Found) : Type 0 where
-  pub items : AreSound parts f.items.items
+abbrev pub IsOfElements : BlockAt → Type 0
+IsOfElements block = block.kind ≡ kinds.Elements
+
+-- the blocks are such of elements, and the box is ready for an archive
+pub record IsReady (f : Found) : Type 0 where
+  pub nodes : All IsOfElements f.nodes.items
+  pub ways : All IsOfElements f.ways.items
   pub box : IsReadyBox f.header_box

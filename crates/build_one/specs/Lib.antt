@@ -1,14 +1,11 @@
 pub mod Answers
-pub mod Bounds
-pub mod Contents
 pub mod Due
 pub mod Found
-pub mod Items
 pub mod Made
-pub mod Map
 pub mod Objects
 pub mod Profiles
 pub mod Stops
 pub mod Survey
+pub mod Passes
 pub mod Worked
 pub mod Writing

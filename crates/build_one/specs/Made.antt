@@ -1,5 +1,5 @@
 -- What writing the map of what was found answers.
-use Rattle.std.specs.Prelude.{◌≡◌, ℕ, ◌≤◌, Option, None, Some, IfSome, Result, Ok, Err, List}
+use Rattle.std.specs.Prelude.{◌≡◌, ◌≤◌, Option, IfSome, Result, Ok, Err, List}
 use Rattle.tb_types.specs.Counts.{Rose}
 use Rattle.tb_types.specs.declared.trouble.Whom.TheVariants as whom
 use Rattle.tb_outside.specs.Spill.{SpillSeen}
@@ -9,19 +9,29 @@ use Rattle.sorted_lists.specs.Sorting.{KeysDiffer}
 use Rattle.pmtiles_file.specs.declared.totals.Totals.{Totals}
 use Rattle.pmtiles_file.specs.Spool.{KeepsEnded}
 use Rattle.tile_model.specs.Features.{name_of}
-use Rattle.build_one.specs.declared.found.Found.{Found}
+use Rattle.std.specs.List.Sorted.{IsPermutation}
+use Rattle.tb_types.specs.declared.location.Bounds.{Bounds}
+use Rattle.mvt_codec.specs.declared.item.RunItem.{RunItem}
 use Rattle.build_one.specs.declared.stop.Stop.{Stop}
 use Rattle.build_one.specs.declared.stop.Stop.TheVariants as stops
 use Rattle.build_one.specs.Answers.{IsDue, Writes, ReadsBack}
-use Rattle.build_one.specs.Contents.{Content}
-use Rattle.build_one.specs.Due.{Due, due_of_contents}
-use Rattle.build_one.specs.Found.{HasContents}
-use Rattle.build_one.specs.Map.{features_of}
+use Rattle.tile_model.specs.Contents.{Content}
+use Rattle.build_one.specs.Due.{Due, due_of_tiles}
+use Rattle.tile_model.specs.Bounds.{first_box}
+use Rattle.tile_model.specs.Extract.{features_of}
+use Rattle.tile_model.specs.Map.{blocks_in, meta_of, tiles_of}
+use Rattle.tile_model.specs.Tiles.{emitted_items}
 
--- it is due by contents of which this was found, or nothing is known of what is due
-abbrev pub IsKnown : Parts → Found → Option Due → Type 0
-IsKnown parts found None = Unit {0}
-IsKnown parts found (Some due) = (contents : List Content) × (due ≡ due_of_contents parts (Ok contents)) × HasContents parts found contents × KeysDiffer name_of (features_of parts contents)
+-- it is due by contents of which this was found; or nothing is known of what is due
+pub record IsDueBy (parts : Parts) (items : List RunItem) (box : Option Bounds) (due : Due) : Type 0 where
+  pub contents : List Content
+  pub is : due ≡ due_of_tiles (meta_of parts (first_box contents)) (tiles_of parts contents)
+  pub same : IsPermutation (emitted_items (features_of parts (blocks_in contents))) items
+  pub box_is : box ≡ first_box contents
+  pub names : KeysDiffer name_of (features_of parts (blocks_in contents))
+
+abbrev pub IsKnown : Parts → List RunItem → Option Bounds → Option Due → Type 0
+IsKnown parts items box due = IfSome due (IsDueBy parts items box)
 
 -- which counts rose, and that the sink got nothing where nothing was written; no other stop comes
 abbrev pub MapCounts : Result Totals Stop → SpillSeen → SpillSeen → SinkSeen → SinkSeen → Type 0

@@ -1,5 +1,5 @@
 -- What ends a build, and why it came.
-use Rattle.std.specs.Prelude.{◌≡◌, Bool, true, false}
+use Rattle.std.specs.Prelude.{Bool, true, false}
 use Rattle.tb_types.specs.declared.trouble.Whom.{Whom}
 use Rattle.tb_types.specs.declared.trouble.Whom.TheVariants as whom
 use Rattle.build_one.specs.declared.stop.Stop.{Stop}

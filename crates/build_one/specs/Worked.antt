@@ -1,17 +1,16 @@
 -- Worked cases that the definitions were checked on.
-use Rattle.std.specs.Prelude.{◌≡◌, ℕ, ℤ, pos, neg_ℤ, Option, None, Some, option_map, Result, Ok, Err, List, [], ◌∷◌, ◌++◌, length, codes}
+use Rattle.std.specs.Prelude.{◌≡◌, ℕ, ℤ, pos, None, Some, Result, Ok, Err, List, [], ◌∷◌, ◌++◌, length, codes}
 use Rattle.tb_types.specs.declared.damage.Why.{Why}
 use Rattle.tb_types.specs.declared.damage.Why.TheVariants as reasons
 use Rattle.tb_types.specs.declared.damage.Damage.{Damage}
-use Rattle.tb_types.specs.declared.location.LatLon.{LatLon}
 use Rattle.osm_elements.specs.declared.element.NodeEl.{NodeEl}
-use Rattle.build_one.specs.Contents.{Content, header, elements, contents_of}
+use Rattle.tile_model.specs.Contents.{Content, header, elements, contents_of}
 use Rattle.tb_types.specs.declared.attribute.FieldKind.TheVariants as field_kinds
 use Rattle.pmtiles_dirs.specs.declared.meta.Meta.{Meta}
 use Rattle.pmtiles_dirs.specs.Archive.{archive_text}
 use Rattle.pmtiles_dirs.specs.Contents.{Tile}
 use Rattle.profile_rules.specs.OneRule.{one_rule_of}
-use Rattle.build_one.specs.Map.{meta_of, tiles_of}
+use Rattle.tile_model.specs.Map.{meta_of, tiles_of}
 
 -- a header frame whose block has no fields
 abbrev pub header_frame : List ℕ

@@ -1,5 +1,5 @@
 -- What writing the tiles of items answers.
-use Rattle.std.specs.Prelude.{◌≡◌, ℕ, ◌≤◌, ◌+◌, ◌++◌, ◌^◌, ◌<◌, Bool, true, false, not, ◌==◌, map, Option, Some, Result, Ok, Err, IfOk, OnOk, List, [], ◌∷◌, length, ⊤}
+use Rattle.std.specs.Prelude.{◌≡◌, ℕ, ◌≤◌, ◌+◌, ◌++◌, ◌^◌, ◌<◌, Bool, true, false, not, ◌==◌, Option, Some, Result, Ok, Err, IfOk, OnOk, List, [], ◌∷◌, length, ⊤}
 use Rattle.std.specs.List.{AllByRecursion}
 use Rattle.std.specs.List.Sorted.{IsSortedBy, IsPermutation}
 use Rattle.tb_types.specs.Counts.{Rose}
@@ -14,7 +14,7 @@ use Rattle.pmtiles_file.specs.Writing.{WriterSeen, Wrote, RunsStand, next_id}
 use Rattle.tile_model.specs.Keys.{item_less, tile_of}
 use Rattle.build_one.specs.declared.stop.TileStop.{TileStop}
 use Rattle.build_one.specs.declared.stop.TileStop.TheVariants as stops
-use Rattle.build_one.specs.Map.{tile_from, tiles_from, layer_names, has_giant}
+use Rattle.tile_model.specs.Map.{tile_from, tiles_from, layer_names, has_giant}
 
 -- Some items in the order of their keys.
 pub record Ordered (items : List RunItem) : Type 0 where

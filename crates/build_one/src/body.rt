@@ -1,7 +1,7 @@
 ghost use Rattle.std.specs.Prelude.{◌≡◌, IfOk, IfSome, true};
 ghost use Rattle.osm_elements.specs.Reasons.{Gives};
 ghost use Rattle.osm_elements.specs.Header.{is_valid};
-ghost use Rattle.build_one.specs.Contents.{header_in, block_in};
+ghost use Rattle.tile_model.specs.Contents.{header_in, block_in};
 
 use osm_elements::{Block, BlockErr, read_block, read_header};
 use pbf_blobs::raw_of;

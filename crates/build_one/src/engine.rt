@@ -1,29 +1,39 @@
-ghost use Rattle.std.specs.Prelude.{◌≡◌, Option};
+ghost use Rattle.std.specs.Prelude.{◌≡◌, IfOk, IfSome, Option, length};
+ghost use Rattle.tb_types.specs.Counts.{Counted};
 ghost use Rattle.profile_rules.specs.Sound.{IsSound};
+ghost use Rattle.pmtiles_dirs.specs.Bounds.{CanBeWritten};
+ghost use Rattle.tile_model.specs.Items.{AreSound};
 ghost use Rattle.build_one.specs.Due.{Due};
 ghost use Rattle.build_one.specs.Found.{IsReady};
 ghost use Rattle.build_one.specs.Made.{IsKnown, MapWritten};
 ghost use Rattle.build_one.specs.Answers.{BuildAnswers, BuildsAreComplete};
 ghost use Rattle.build_one.specs.Objects.{one_lane};
+ghost use Rattle.build_one.specs.Passes.{Gathers, seen_items};
 ghost use Rattle.build_one.specs.Profiles.{IsKeyed, IsAlone};
+ghost use Rattle.build_one.specs.Survey.{LieWithin, survey_failed};
 
 use crate::found::Found;
 use crate::from::ProfileFrom;
 use crate::map::meta_of;
-use crate::profile::{is_built, profile_from};
+use crate::members::members;
+use crate::nodes::{Placed, nodes};
+use crate::profile::profile_from;
 use crate::stop::Stop;
 use crate::survey::survey;
 use crate::tiles::write_tiles;
+use crate::ways::ways;
+use mvt_codec::RunItem;
+use pbf_blobs::ScanStop;
 use pmtiles_file::Totals;
 use profile_rules::Profile;
 use std::alloc::Global;
 use tb_outside::{Lane, Sink, Source, Spill};
-use tb_types::Memory;
+use tb_types::{Bounds, Memory};
 
 /// Builds the archive of the extract that the lane's reader has, by a profile, and appends it to the sink.
 ///
 /// `Profile` exactly where a told profile is refused, `Damage` exactly where a told extract is damaged, `NotYet` exactly where
-/// the profile asks for more than points or a tile has 4 GiB or more, `Source` and `Spill` only where the count of the named
+/// the profile makes something of a relation or a tile has 4 GiB or more, `Source` and `Spill` only where the count of the named
 /// object rose, `Sink` only where that of the archive's sink did. The profile is judged before the extract is touched, and the
 /// sink gets nothing before all tiles stand in the spool. The lane's spill is left alone.
 pub fn build<P: Source, R: Source, S: Spill, K: Sink>(
@@ -44,35 +54,67 @@ pub fn build<P: Source, R: Source, S: Spill, K: Sink>(
         Ok(profile) => profile,
         Err(e) => return Err(Stop::from(e)),
     };
-    if !is_built(&profile) {
-        return Err(Stop::NotYet);
-    }
     let found = match survey(alloc, &profile, &mut lane.reader) {
         Ok(found) => found,
         Err(e) => return Err(Stop::from(e)),
     };
-    write_map(alloc, &profile, found, spool, archive)
+    if found.kept {
+        return Err(Stop::NotYet);
+    }
+    let items = match gather(alloc, &profile, &mut lane.reader, &found) {
+        Ok(items) => items,
+        Err(e) => return Err(Stop::from(e)),
+    };
+    let bounds = found.header_box.unwrap_or(None);
+    write_map(alloc, &profile, items, bounds, spool, archive)
 }
 
-// Writes the map of what was found: its tiles, and then the archive.
+// The items of all features: the needed nodes are found, then they are located and the items of nodes made, then those of ways.
+fn gather<R: Source>(
+    alloc: Global,
+    profile: &Profile,
+    reader: &mut R,
+    found: &Found,
+) -> Result<Vec<RunItem>, ScanStop>
+    requires sound { IsSound profile.now }
+    requires ready { IsReady found.now }
+    requires within { IfSome (R.seen reader.old).bytes (λ extract. LieWithin (length extract) found.now) }
+    ensures told { IfSome (R.seen reader.old).bytes (λ extract. Gathers profile.now extract found.now (seen_items result)) }
+    ensures sound { IfOk result (λ items. AreSound profile.now items.items) }
+    ensures counts { Counted (survey_failed result) (R.seen reader.old).faults (R.seen reader.new).faults }
+    ensures bytes { (R.seen reader.new).bytes ≡ (R.seen reader.old).bytes }
+{
+    let needed = match members(alloc, profile, reader, &found.ways) {
+        Ok(needed) => needed,
+        Err(stop) => return Err(stop),
+    };
+    let Placed { locations, items } = match nodes(alloc, profile, reader, &found.nodes, &needed) {
+        Ok(placed) => placed,
+        Err(stop) => return Err(stop),
+    };
+    ways(alloc, profile, reader, &found.ways, &locations, items)
+}
+
+// Writes the map of these items: its tiles, and then the archive.
 fn write_map<S: Spill, K: Sink>(
     alloc: Global,
     profile: &Profile,
-    found: Found,
+    items: Vec<RunItem>,
+    bounds: Option<Bounds>,
     spool: &mut S,
     archive: &mut K,
 ) -> Result<Totals, Stop>
-    requires ready { IsReady profile.now found }
+    requires items { AreSound profile.now items.items }
+    requires bounds { IfSome bounds CanBeWritten }
     requires zooms { IsSound profile.now }
-    ensures { (due : Option Due) → IsKnown profile.now found due
+    ensures { (due : Option Due) → IsKnown profile.now items.items bounds due
         → MapWritten due (S.seen spool.old) (S.seen spool.new) (K.seen archive.old) (K.seen archive.new) result }
 {
-    let bounds = found.header_box.unwrap_or(None);
     let meta = match meta_of(alloc, profile, bounds) {
         Ok(meta) => meta,
         Err(Memory) => return Err(Stop::Memory),
     };
-    let writer = match write_tiles(alloc, profile, meta, found.items, spool) {
+    let writer = match write_tiles(alloc, profile, meta, items, spool) {
         Ok(writer) => writer,
         Err(e) => return Err(Stop::from(e)),
     };

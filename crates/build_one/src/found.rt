@@ -1,83 +1,83 @@
-ghost use Rattle.std.specs.Prelude.{◌≡◌, ℕ, ◌++◌, Ok, None, Some, IfSome, [], flat_map, OnOk, true};
+ghost use Rattle.std.specs.Prelude.{◌≡◌, Ok, None, List, ℕ, [], OnOk};
 ghost use Rattle.std.specs.Option.{option_or};
 ghost use Rattle.tb_types.specs.declared.damage.Why.{Why};
 ghost use Rattle.pbf_blobs.specs.declared.block.BlockKind.TheVariants as kinds;
 ghost use Rattle.osm_elements.specs.declared.fault.BlockErr.TheVariants as faults;
-ghost use Rattle.osm_elements.specs.Header.{is_valid};
 ghost use Rattle.profile_rules.specs.declared.parts.Parts.{Parts};
-ghost use Rattle.profile_rules.specs.Sound.{IsSound};
-ghost use Rattle.tile_model.specs.Points.{block_points};
-ghost use Rattle.tile_model.specs.Tiles.{emitted_items};
-ghost use Rattle.build_one.specs.Contents.{content_of, in_block};
-ghost use Rattle.build_one.specs.Found.{Holds, Takes, IsReady};
-ghost use Rattle.build_one.specs.Items.{Gains};
+ghost use Rattle.tile_model.specs.Contents.{IsBody, content_at};
+ghost use Rattle.build_one.specs.Found.{Holds, Takes, IsReady, Notes, Steps};
 
 use crate::body::{block_in, header_in};
-use crate::node::put_items;
-use int_mercator::Table;
-use mvt_codec::RunItem;
-use osm_elements::{Block, BlockErr};
-use pbf_blobs::BlockKind;
+use osm_elements::{Block, BlockErr, kinds_of};
+use pass_survey::has_kept;
+use pbf_blobs::{BlockAt, BlockKind};
 use profile_rules::Profile;
 use std::alloc::Global;
 use tb_types::{Bounds, Damage, Memory};
 
-/// What was found so far of an extract: the items of its nodes, the box of its first header, which may have none, and the
-/// damage of the first damaged block. Once there is damage, the rest doesn't count.
+/// What was found so far of an extract: the blocks that have nodes and those that have ways, whether the profile makes
+/// something of a relation, the box of the first header, which may have none, and the damage of the first damaged block. Once
+/// there is damage, the rest doesn't count.
 #[derive(Drop)]
 pub struct Found {
-    pub items: Vec<RunItem>,
+    pub nodes: Vec<BlockAt>,
+    pub ways: Vec<BlockAt>,
+    pub kept: bool,
     pub header_box: Option<Option<Bounds>>,
     pub damage: Option<Damage>,
 }
 
 impl Found {
     pub fn new(alloc: Global) -> Found
-        ensures holds { (parts : Parts) → Holds parts result (Ok []) }
-        ensures ready { (parts : Parts) → IsReady parts result }
+        ensures holds { (parts : Parts) (extract : List ℕ) → Holds parts extract result (Ok []) }
+        ensures ready { IsReady result }
+        ensures none { (result.nodes.items ≡ []) × (result.ways.items ≡ []) }
     {
         Found {
-            items: Vec::new(alloc),
+            nodes: Vec::new(alloc),
+            ways: Vec::new(alloc),
+            kept: false,
             header_box: None,
             damage: None,
         }
     }
 
-    /// Takes up the body of a block.
+    /// Takes up a block with its body.
     pub fn take(
         &mut self,
         alloc: Global,
         profile: &Profile,
-        table: &Table,
-        no: u32,
-        kind: BlockKind,
+        block: BlockAt,
         body: &[u8],
     ) -> Result<(), Memory>
-        requires sound { IsSound profile.now }
-        ensures takes { Takes profile.now self.old self.new result (in_block no (content_of no kind body.now)) }
-        ensures ready { IsReady profile.now self.old → OnOk result (IsReady profile.now self.new) }
+        ensures takes { (extract : List ℕ) → IsBody extract block body.now → Takes profile.now extract self.old self.new result (content_at extract block) }
+        ensures ready { IsReady self.old → OnOk result (IsReady self.new) }
+        ensures steps { OnOk result (Steps block self.old self.new) }
     {
         if self.damage.is_some() {
             return Ok(());
         }
-        match kind {
-            BlockKind::Header => self.take_header(alloc, no, body),
-            BlockKind::Elements => self.take_elements(alloc, profile, table, no, body),
+        match block.kind {
+            BlockKind::Header => self.take_header(alloc, block, body),
+            BlockKind::Elements => self.take_elements(alloc, profile, block, body),
             BlockKind::Other => Ok(()),
         }
     }
 
-    // Takes up the body of a header frame.
-    fn take_header(&mut self, alloc: Global, no: u32, body: &[u8]) -> Result<(), Memory>
-        ensures takes { (parts : Parts) → self.old.damage ≡ None → Takes parts self.old self.new result (in_block no (content_of no kinds.Header body.now)) }
-        ensures ready { (parts : Parts) → IsReady parts self.old → OnOk result (IsReady parts self.new) }
+    // Takes up a header frame.
+    fn take_header(&mut self, alloc: Global, block: BlockAt, body: &[u8]) -> Result<(), Memory>
+        requires kind { block.kind ≡ kinds.Header }
+        requires none { self.old.damage ≡ None }
+        ensures takes { (parts : Parts) (extract : List ℕ) → IsBody extract block body.now → Takes parts extract self.old self.new result (content_at extract block) }
+        ensures ready { IsReady self.old → OnOk result (IsReady self.new) }
+        ensures steps { OnOk result (Steps block self.old self.new) }
     {
         match header_in(alloc, body) {
             Ok(found) => {
                 self.note_box(found);
                 Ok(())
             }
-            Err(e) => self.refuse(no, e),
+            Err(e) => self.refuse(block.no, e),
         }
     }
 
@@ -90,23 +90,47 @@ impl Found {
         }
     }
 
-    // Takes up the body of a data frame.
+    // Takes up a data frame.
     fn take_elements(
         &mut self,
         alloc: Global,
         profile: &Profile,
-        table: &Table,
-        no: u32,
+        block: BlockAt,
         body: &[u8],
     ) -> Result<(), Memory>
-        requires sound { IsSound profile.now }
-        ensures takes { self.old.damage ≡ None → Takes profile.now self.old self.new result (in_block no (content_of no kinds.Elements body.now)) }
-        ensures ready { IsReady profile.now self.old → OnOk result (IsReady profile.now self.new) }
+        requires kind { block.kind ≡ kinds.Elements }
+        requires none { self.old.damage ≡ None }
+        ensures takes { (extract : List ℕ) → IsBody extract block body.now → Takes profile.now extract self.old self.new result (content_at extract block) }
+        ensures ready { IsReady self.old → OnOk result (IsReady self.new) }
+        ensures steps { OnOk result (Steps block self.old self.new) }
     {
         match block_in(alloc, body) {
-            Ok(block) => put_nodes(&mut self.items, alloc, profile, table, no, &block),
-            Err(e) => self.refuse(no, e),
+            Ok(elements) => self.note_block(alloc, profile, block, &elements),
+            Err(e) => self.refuse(block.no, e),
         }
+    }
+
+    // Notes which kinds of elements a block has.
+    fn note_block(
+        &mut self,
+        alloc: Global,
+        profile: &Profile,
+        block: BlockAt,
+        elements: &Block,
+    ) -> Result<(), Memory>
+        ensures { OnOk result (Notes profile.now block elements.now self.old self.new) }
+    {
+        let kinds = kinds_of(elements);
+        if kinds.nodes {
+            self.nodes.push(block)?;
+        }
+        if kinds.ways {
+            self.ways.push(block)?;
+        }
+        if !self.kept {
+            self.kept = has_kept(alloc, profile, elements.relations.as_slice())?;
+        }
+        Ok(())
     }
 
     // Notes the damage of a block.
@@ -121,22 +145,4 @@ impl Found {
             BlockErr::Memory => Err(Memory),
         }
     }
-}
-
-// Adds the items of the nodes of a block.
-fn put_nodes(
-    items: &mut Vec<RunItem>,
-    alloc: Global,
-    profile: &Profile,
-    table: &Table,
-    no: u32,
-    block: &Block,
-) -> Result<(), Memory>
-    requires sound { IsSound profile.now }
-    ensures { OnOk result (Gains profile.now (emitted_items (block_points profile.now (no, block.now))) items.old.items items.new.items) }
-{
-    for node in block.nodes.as_slice() {
-        put_items(items, alloc, profile, table, no, node)?;
-    }
-    Ok(())
 }

@@ -1,7 +1,7 @@
 ghost use Rattle.std.specs.Prelude.{◌≡◌, ◌<◌, IfOk, length, map};
 ghost use Rattle.profile_rules.specs.Fields.{layers_of};
 ghost use Rattle.profile_rules.specs.Sound.{IsSound};
-ghost use Rattle.build_one.specs.Map.{layer_names, meta_layer, meta_layers, meta_of};
+ghost use Rattle.tile_model.specs.Map.{layer_names, meta_layer, meta_layers, meta_of};
 
 use pmtiles_dirs::{Meta, MetaLayer};
 use profile_rules::{LayerInfo, Profile, fields, layers, name, zooms};

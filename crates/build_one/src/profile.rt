@@ -2,14 +2,13 @@ ghost use Rattle.std.specs.Prelude.{◌≡◌, ◌<◌, IfSome, length};
 ghost use Rattle.profile_rules.specs.Faults.{Gives};
 ghost use Rattle.profile_rules.specs.Profile.{profile_of};
 ghost use Rattle.tb_types.specs.Counts.{Counted};
-ghost use Rattle.build_one.specs.Due.{is_built, parts_from};
+ghost use Rattle.build_one.specs.Due.{parts_from};
 ghost use Rattle.build_one.specs.Profiles.{IsKeyed, IsAlone, ReadsProfile, LoadsText, profile_failed};
 
 use crate::from::ProfileFrom;
 use crate::stop::ProfileStop;
 use profile_rules::{
-    LONGEST_PROFILE, Part, Profile, ProfileErr, ProfileWhy, Spot, has_points_only, one_rule,
-    read_profile,
+    LONGEST_PROFILE, Part, Profile, ProfileErr, ProfileWhy, Spot, one_rule, read_profile,
 };
 use std::alloc::Global;
 use tb_outside::Source;
@@ -74,11 +73,4 @@ fn load_text<P: Source>(alloc: Global, source: &mut P) -> Result<Vec<u8>, Profil
         Ok(()) => Ok(text),
         Err(_) => Err(ProfileStop::Failed),
     }
-}
-
-/// Whether a profile asks for points alone, which are built yet.
-pub fn is_built(profile: &Profile) -> bool
-    ensures { result ≡ is_built profile.now }
-{
-    has_points_only(profile)
 }

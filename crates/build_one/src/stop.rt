@@ -23,7 +23,7 @@ pub enum Stop {
     Spill(Whom),
     /// The archive's sink failed: its count of faults rose.
     Sink,
-    /// The profile asks for more than points, or a tile has 4 GiB or more, which isn't built yet.
+    /// The profile makes something of a relation, or a tile has 4 GiB or more, which isn't built yet.
     NotYet,
     /// Want of memory.
     Memory,

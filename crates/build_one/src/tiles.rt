@@ -4,8 +4,8 @@ ghost use Rattle.profile_rules.specs.Sound.{IsSound};
 ghost use Rattle.pmtiles_dirs.specs.Bounds.{CanBeWritten};
 ghost use Rattle.pmtiles_file.specs.Writing.{next_id, RunsStand};
 ghost use Rattle.tile_model.specs.Keys.{item_less};
-ghost use Rattle.build_one.specs.Items.{AreSound, IsSoundItem};
-ghost use Rattle.build_one.specs.Map.{tile_from};
+ghost use Rattle.tile_model.specs.Items.{AreSound, IsSoundItem};
+ghost use Rattle.tile_model.specs.Map.{tile_from};
 ghost use Rattle.build_one.specs.Writing.{begins_tile, first_tile, AreOfOneTile, ClosesIf, MapAnswers, TileAnswers, TilesAnswers};
 
 use crate::map::layer_names;

@@ -8,5 +8,7 @@ pub mod KeyOrder
 pub mod KeySorts
 pub mod Built
 pub mod PointFeatures
+pub mod Names
 pub mod WorkedCases
 pub mod Proved
+pub mod Ranges

@@ -7,7 +7,10 @@ use Rattle.tile_model.proofs.Tiled
 use Rattle.tile_model.proofs.Differing
 use Rattle.tile_model.proofs.TileLists
 use Rattle.tile_model.proofs.Built
+use Rattle.tile_model.specs.ExtractLaws.{ExtractLaws}
 use Rattle.tile_model.proofs.PointFeatures
+use Rattle.tile_model.proofs.Names
+use Rattle.tile_model.proofs.Ranges
 
 pub tiles : (F T X : Type 0) → TileLaws F T X
 tiles F T X = record {
@@ -39,6 +42,12 @@ points = record {
   told = PointFeatures.told;
   items = λ parts block n w spec zoom tiles low high is. PointFeatures.items parts block n w spec zoom low high tiles is;
   near = PointFeatures.near;
-  differ = PointFeatures.names-differ;
-  numbered = PointFeatures.nodes-numbered;
+}
+
+pub extracts : ExtractLaws
+extracts = record {
+  differ = Names.names-differ;
+  numbered = Names.elements-numbered;
+  placed = Names.places-differ;
+  within = Ranges.all-within;
 }

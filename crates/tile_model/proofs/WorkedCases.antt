@@ -1,10 +1,16 @@
 -- Worked cases, computed.
 use Rattle.std.proofs.Common.{refl}
 use Rattle.hilbert_ids.specs.Ids.{number_of}
-use Rattle.int_mercator.specs.Places.{grid_of}
+use Rattle.int_mercator.specs.Cosine.{series, cosine_of}
+use Rattle.int_mercator.specs.Quarter.{secant_of, height_of, entry_of, quarter}
+use Rattle.int_mercator.specs.Places.{x_of, north_of, y_of, world_of, grid_of}
 use Rattle.strip_clip.specs.Cuts.{cut_of}
 use Rattle.tile_model.specs.Tiles.{tiles_between}
 use Rattle.tile_model.specs.Worked.{WorkedPoints, WorkedTiles}
+use Rattle.tile_model.specs.WorkedWays.{WorkedWays}
+use Rattle.tile_model.specs.World.{simple_path, simple_ring}
+use Rattle.line_simplify.specs.Key.{key_of, distance_of, scalar_of, cross_of}
+use Rattle.line_simplify.specs.Rule.{simplified, kept, split_of}
 
 pub points : WorkedPoints
 unfolding cut_of grid_of
@@ -13,3 +19,7 @@ points = record { corner = refl; buffered = refl; past = refl; alone = refl; far
 pub tiles : WorkedTiles
 unfolding number_of tiles_between
 tiles = record { ids = refl; none = refl; rows = refl; emitted = refl; walk = refl; upper = refl }
+
+pub ways : WorkedWays
+unfolding simple_path simple_ring simplified kept split_of key_of distance_of scalar_of cross_of world_of x_of y_of north_of quarter entry_of height_of secant_of cosine_of series grid_of
+ways = record { moved_away = refl; moved_back = refl; other_order = refl; unknown = refl; closed = refl; alone = refl; missing = refl; twice = refl; area = refl; open_area = refl; line = refl; grid_line = refl; one_point = refl; grid_area = refl; gone = refl }

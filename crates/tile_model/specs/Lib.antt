@@ -4,6 +4,16 @@ pub mod Keys
 pub mod Features
 pub mod Tiles
 pub mod BuildLaws
+pub mod World
+pub mod Rows
 pub mod Points
+pub mod Ways
+pub mod Extract
 pub mod Worked
+pub mod WorkedWays
 pub mod PointLaws
+pub mod ExtractLaws
+pub mod Contents
+pub mod Bounds
+pub mod Map
+pub mod Items

@@ -1,24 +1,17 @@
 -- The laws of points in tiles.
-use Rattle.std.specs.Prelude.{◌≡◌, ℕ, ◌≤◌, true, pos, negsuc, Some, is_some, List, map, filter_map, All}
+use Rattle.std.specs.Prelude.{◌≡◌, ℕ, ◌≤◌, true, pos, negsuc, Some, is_some, List, map, filter_map}
 use Rattle.tb_types.specs.declared.location.Grid.{Grid}
 use Rattle.tb_types.specs.declared.location.World.{World}
 use Rattle.tb_types.specs.declared.shape.Shape.TheVariants.{Point}
 use Rattle.tb_types.specs.declared.tile.TileXyz.{TileXyz}
 use Rattle.osm_elements.specs.declared.element.NodeEl.{NodeEl}
-use Rattle.osm_elements.specs.declared.element.Block.{Block}
-use Rattle.osm_elements.specs.Elements.{Element}
-use Rattle.osm_elements.specs.Block.{block_in}
 use Rattle.profile_rules.specs.declared.parts.Parts.{Parts}
 use Rattle.profile_rules.specs.declared.spec.Spec.{Spec}
 use Rattle.strip_clip.specs.Cuts.{cut_of, corner_of, relative, IsBetween}
-use Rattle.sorted_lists.specs.Sorting.{KeysDiffer}
-use Rattle.tile_model.specs.Features.{name_of, item_at}
+use Rattle.tile_model.specs.Features.{item_at}
 use Rattle.tile_model.specs.Tiles.{IsTold}
-use Rattle.tile_model.specs.Points.{buffer_of, grid_point, point_feature, point_item, points_of, IsPointTold}
-
--- no two nodes of a block have one number
-abbrev pub AreNumbered : Block → Type 0
-AreNumbered block = KeysDiffer (λ (n : NodeEl). n.index) block.nodes
+use Rattle.tile_model.specs.Points.{point_feature, point_item, IsPointTold}
+use Rattle.tile_model.specs.World.{buffer_of, grid_point}
 
 pub record PointLaws : Type 0 where
   -- the tiles in which the cut leaves a point are those in which its feature has a row
@@ -32,7 +25,3 @@ pub record PointLaws : Type 0 where
   pub near : (t : TileXyz) (buffer : ℕ) (p : Grid) → buffer ≤ 256 → is_some (cut_of t buffer (Point p)) ≡ true
       → (cut_of t buffer (Point p) ≡ Some (Point (relative (corner_of t) p)))
       × IsBetween (negsuc 255) (pos 4352) (relative (corner_of t) p).x × IsBetween (negsuc 255) (pos 4352) (relative (corner_of t) p).y
-  -- no two features of points have one name, where blocks differ by their numbers, and nodes of a block by theirs,
-  pub differ : (parts : Parts) (blocks : List (ℕ × Block)) → KeysDiffer (λ b. b.0) blocks → All (λ b. AreNumbered b.1) blocks → KeysDiffer name_of (points_of parts blocks)
-  -- as they do in each block that is read
-  pub numbered : (elements : List Element) → AreNumbered (block_in elements)

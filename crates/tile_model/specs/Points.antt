@@ -1,52 +1,33 @@
 -- Points in tiles: what a rule makes of a node (Mapbox Vector Tile 2.1, section 4).
-use Rattle.std.specs.Prelude.{◌≡◌, ◌≢◌, ◌↔◌, ℕ, ◌+◌, ◌-◌, ◌*◌, ◌^◌, ◌<◌, ◌≤◌, ◌==◌, ◌&&◌, ◌||◌, nat_lt, nat_le, unsigned_abs, option_and_then, if◌then◌else◌, true, is_some, ℤ, pos, negsuc, Option, None, Some, List, [], ◌∷◌, map, flat_map, slice_get, AllPairs, Contains}
+use Rattle.std.specs.Prelude.{◌≡◌, ◌≢◌, ◌↔◌, ℕ, ◌+◌, ◌-◌, ◌*◌, ◌^◌, ◌<◌, ◌≤◌, ◌&&◌, nat_le, unsigned_abs, option_and_then, if◌then◌else◌, true, is_some, ℤ, pos, Option, None, Some, List, [], ◌∷◌, map, flat_map, AllPairs, Contains}
 use Rattle.std.specs.List.{range_with_len}
 use Rattle.tb_types.specs.Zigzag.{zigzag_of}
-use Rattle.tb_types.specs.declared.attribute.Attr.{Attr}
-use Rattle.tb_types.specs.declared.element.Kind.{Kind}
 use Rattle.tb_types.specs.declared.element.Kind.TheVariants as kinds
 use Rattle.tb_types.specs.declared.location.Grid.{Grid}
 use Rattle.tb_types.specs.declared.location.LatLon.{LatLon}
 use Rattle.tb_types.specs.declared.location.World.{World}
-use Rattle.tb_types.specs.declared.shape.Shape.{Shape}
-use Rattle.tb_types.specs.declared.shape.Shape.TheVariants.{Point, Line, Area}
+use Rattle.tb_types.specs.declared.shape.Shape.TheVariants.{Point}
 use Rattle.tb_types.specs.declared.tile.TileXyz.{TileXyz}
 use Rattle.osm_elements.specs.declared.element.NodeEl.{NodeEl}
 use Rattle.osm_elements.specs.declared.element.Block.{Block}
-use Rattle.int_mercator.specs.Places.{world_of, grid_of, lat_limit, lon_limit}
-use Rattle.profile_rules.specs.declared.parts.LayerInfo.{LayerInfo}
+use Rattle.int_mercator.specs.Places.{world_of, lat_limit, lon_limit}
 use Rattle.profile_rules.specs.declared.parts.Parts.{Parts}
 use Rattle.profile_rules.specs.declared.spec.Spec.{Spec}
 use Rattle.profile_rules.specs.Features.{specs_of}
 use Rattle.strip_clip.specs.Cuts.{cut_of, corner_of, relative, IsBetween}
-use Rattle.mvt_codec.specs.declared.row.TileRow.{TileRow}
 use Rattle.mvt_codec.specs.declared.item.RunItem.{RunItem}
 use Rattle.tile_model.specs.Features.{Feature, as_item}
+use Rattle.tile_model.specs.Rows.{feature_id, shape_feature}
+use Rattle.tile_model.specs.declared.world.Origin.{Origin}
+use Rattle.tile_model.specs.World.{grid_point}
+use Rattle.tile_model.specs.declared.world.WorldShape.TheVariants as worlds
 use Rattle.tile_model.specs.Tiles.{IsTileAt, tiles_in}
 use Rattle.tile_model.specs.declared.reach.Strips.{Strips}
 use Rattle.tile_model.specs.declared.reach.Reach.{Reach}
 
--- what the kind of an element adds to ten times its id
-abbrev pub kind_digit : Kind → ℕ
-kind_digit kinds.Node = 1
-kind_digit kinds.Way = 2
-kind_digit kinds.Relation = 3
-
--- the id of an element's features: ten times its own and its kind's digit, where its own is positive and that has 64 bits, else none
-abbrev pub feature_id : Kind → ℤ → ℕ
-feature_id kind (pos n) = if (n == 0) || nat_lt (2 ^ 64 - 1) (10 * n + kind_digit kind) then 0 else 10 * n + kind_digit kind
-feature_id kind (negsuc n) = 0
-
 -- a point counted from its tile's corner: MoveTo, once, and the way to it
 abbrev pub point_ints : Grid → List ℕ
 point_ints p = 9 ∷ zigzag_of p.x ∷ zigzag_of p.y ∷ []
-
--- the row of a point that is left in a tile; 1 is the type of points
-abbrev pub point_row : ℕ → List Attr → Option Shape → Option TileRow
-point_row id attributes None = None
-point_row id attributes (Some (Point p)) = Some (record { id = id; form = 1; ints = point_ints p; attributes = attributes })
-point_row id attributes (Some (Line paths)) = None
-point_row id attributes (Some (Area polygons)) = None
 
 -- the point of the world at a location, or none where that isn't on earth
 abbrev pub projected : LatLon → Option World
@@ -56,30 +37,12 @@ projected at = if nat_le (unsigned_abs at.lat) lat_limit && nat_le (unsigned_abs
 abbrev pub point_of : NodeEl → Option World
 point_of n = option_and_then projected n.at
 
--- a point of the world on the grid of a zoom
-abbrev pub grid_point : World → ℕ → Grid
-grid_point w zoom = record { x = pos (grid_of w.x zoom); y = pos (grid_of w.y zoom) }
+abbrev pub node_origin : ℕ → NodeEl → Origin
+node_origin block n = record { kind = kinds.Node; place = record { block = block; index = n.index }; id = n.id }
 
-abbrev pub buffer_if : Option LayerInfo → ℕ
-buffer_if None = 0
-buffer_if (Some layer) = layer.buffer
-
--- the buffer of the layer of a number
-abbrev pub buffer_of : Parts → ℕ → ℕ
-buffer_of parts layer = buffer_if (slice_get parts.layers layer)
-
--- What a spec makes of a node of a block at a point of the world: a row in each tile in which the point is left by the cut.
+-- what a spec makes of a node of a block at a point of the world
 abbrev pub point_feature : Parts → ℕ → NodeEl → World → Spec → Feature
-point_feature parts block n w spec = record {
-  layer = spec.layer;
-  order = spec.order;
-  kind = kinds.Node;
-  place = record { block = block; index = n.index };
-  rule = spec.rule;
-  min = spec.min;
-  max = spec.max;
-  row = λ tile. point_row (feature_id kinds.Node n.id.0) spec.attributes (cut_of tile (buffer_of parts spec.layer) (Point (grid_point w tile.z)));
-}
+point_feature parts block n w spec = shape_feature parts (node_origin block n) (worlds.Point w) spec
 
 -- its item in a tile of a zoom where it has one: the point counted from the tile's corner
 abbrev pub point_item : Parts → ℕ → NodeEl → World → Spec → ℕ → TileXyz → RunItem

@@ -15,7 +15,9 @@ use Rattle.sorted_lists.specs.Sorting.{sorted_by}
 use Rattle.tile_model.specs.Keys.{item_less, tile_of}
 use Rattle.tile_model.specs.Features.{Feature}
 use Rattle.tile_model.specs.Tiles.{tiles_between, built_tiles, emitted_items}
-use Rattle.tile_model.specs.Points.{point_ints, feature_id, grid_point}
+use Rattle.tile_model.specs.Points.{point_ints}
+use Rattle.tile_model.specs.Rows.{feature_id}
+use Rattle.tile_model.specs.World.{grid_point}
 
 abbrev pub tile : ℕ → ℕ → ℕ → TileXyz
 tile z x y = record { z = z; x = x; y = y }

@@ -1,4 +1,5 @@
 ghost use Rattle.tile_model.specs.BuildLaws.{BuildLaws};
+ghost use Rattle.tile_model.specs.ExtractLaws.{ExtractLaws};
 ghost use Rattle.tile_model.specs.PointLaws.{PointLaws};
 ghost use Rattle.tile_model.specs.TileLaws.{DifferLaws, TileLaws};
 
@@ -17,8 +18,12 @@ pub fn build_laws()
     ensures { BuildLaws }
 {}
 
-/// The laws of points: the tiles that `reach_of_point` tells are those in which a point's feature has a row, and no two
-/// features have one kind, place and rule.
+/// The laws of points: the tiles that `reach_of_point` tells are those in which a point's feature has a row.
 pub fn point_laws()
     ensures { PointLaws }
+{}
+
+/// The laws of the features of an extract: no two of them have one kind, place and rule, and their zooms are the profile's.
+pub fn extract_laws()
+    ensures { ExtractLaws }
 {}

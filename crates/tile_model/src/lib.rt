@@ -12,8 +12,10 @@ mod reach;
 #[cfg(test)]
 mod tests;
 mod worked;
+mod world;
 
-pub use laws::{build_laws, differ_laws, point_laws, tile_laws};
+pub use laws::{build_laws, differ_laws, extract_laws, point_laws, tile_laws};
 pub use order::{sort_items, tile_len};
 pub use reach::{Reach, Strips, from_corner, reach_of_point};
 pub use worked::worked_tiles;
+pub use world::{Origin, WorldShape};

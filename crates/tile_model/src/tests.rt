@@ -93,5 +93,6 @@ fn laws_hold_at_any_types() {
     differ_laws::<u8, u16, u32, u64, char>();
     build_laws();
     point_laws();
+    extract_laws();
     worked_tiles();
 }

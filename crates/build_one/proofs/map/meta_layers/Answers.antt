@@ -1,5 +1,5 @@
 use Rattle.std.proofs.Common.{◌∙◌, ap}
-use Rattle.build_one.specs.Map.{meta_layer}
+use Rattle.tile_model.specs.Map.{meta_layer}
 use Rattle.build_one.proofs.Metas.{meta-next}
 use Rattle.build_one.proofs.map.meta_layers.Goals as goal
 

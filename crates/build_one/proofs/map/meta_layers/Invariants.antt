@@ -1,7 +1,7 @@
 use Rattle.std.proofs.Common.{◌≡◌, take, map}
 use Rattle.std.specs.List.{enumerate_from}
 use Rattle.profile_rules.specs.Fields.{layers_of}
-use Rattle.build_one.specs.Map.{meta_layer}
+use Rattle.tile_model.specs.Map.{meta_layer}
 use Rattle.build_one.proofs.map.meta_layers.Given as goal
 
 abbrev pub invariant-loop-i : goal.invariant-loop-i

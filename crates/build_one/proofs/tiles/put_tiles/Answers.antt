@@ -1,6 +1,5 @@
-use Rattle.std.proofs.Common.{rules, ◌≡◌, ◌∷◌, [], ◌++◌, List, Ok, Err, length, refl, sym, subst, arith}
+use Rattle.std.proofs.Common.{rules, ◌≡◌, ◌∷◌, [], ◌++◌, List, Ok, length, refl, sym, subst, arith}
 use Rattle.mvt_codec.specs.declared.item.RunItem.{RunItem}
-use Rattle.build_one.specs.declared.stop.TileStop.TheVariants as stops
 use Rattle.build_one.specs.Writing.{TilesAnswers}
 use Rattle.build_one.proofs.Tiling.{Walk, walk-start, group-sound, group-next, step, refused, no-memory, none-left, last-tile, empty-of}
 use Rattle.build_one.proofs.tiles.put_tiles.Goals as goal

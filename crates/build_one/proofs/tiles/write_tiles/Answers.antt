@@ -1,10 +1,10 @@
-use Rattle.std.proofs.Common.{◌≡◌, ℕ, List, Ok, Err, All, length, ◌++◌, take, drop, sym, ap, subst, ◌∙◌, arith}
+use Rattle.std.proofs.Common.{List, Ok, Err, All, length, sym, subst, ◌∙◌, arith}
 use Rattle.std.proofs.lemmas.List.Sorted.{All-permutation, length_permutation}
 use Rattle.std.specs.List.Sorted.{IsSortedBy, IsPermutation}
 use Rattle.profile_rules.specs.Fields.{layers_of}
 use Rattle.mvt_codec.specs.declared.item.RunItem.{RunItem}
 use Rattle.tile_model.specs.Keys.{item_less}
-use Rattle.build_one.specs.Items.{IsSoundItem}
+use Rattle.tile_model.specs.Items.{IsSoundItem}
 use Rattle.build_one.specs.Writing.{TilesAnswers}
 use Rattle.build_one.proofs.Writes.{left-in-place, sound-names, map-written, map-not-written}
 use Rattle.build_one.proofs.tiles.write_tiles.Goals as goal

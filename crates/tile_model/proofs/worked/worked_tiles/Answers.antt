@@ -1,4 +1,4 @@
-use Rattle.tile_model.proofs.WorkedCases.{points, tiles}
+use Rattle.tile_model.proofs.WorkedCases.{points, tiles, ways}
 use Rattle.tile_model.proofs.worked.worked_tiles.Goals as goal
 
 pub returns-clause-points : goal.returns-clause-points
@@ -6,3 +6,6 @@ returns-clause-points c = points
 
 pub returns-clause-tiles : goal.returns-clause-tiles
 returns-clause-tiles c = tiles
+
+pub returns-clause-ways : goal.returns-clause-ways
+returns-clause-ways c = ways

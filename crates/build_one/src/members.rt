@@ -1,0 +1,43 @@
+ghost use Rattle.std.specs.Prelude.{◌≡◌, All, IfSome, length};
+ghost use Rattle.tb_types.specs.Counts.{Counted};
+ghost use Rattle.pbf_blobs.specs.Answers.{IsShort};
+ghost use Rattle.build_one.specs.Found.{IsOfElements};
+ghost use Rattle.build_one.specs.Passes.{AreNeeded, Reads};
+ghost use Rattle.build_one.specs.Survey.{survey_failed};
+
+use crate::load::load_block;
+use member_sets::{NeededNodes, Unit};
+use pass_survey::put_needed;
+use pbf_blobs::{BlockAt, ScanStop};
+use profile_rules::Profile;
+use shard_store::ShardMap;
+use std::alloc::Global;
+use tb_outside::Source;
+use tb_types::{Memory, OsmId};
+
+/// The nodes that are needed: those of each way of which the profile makes something. Each of these blocks is loaded, once.
+pub fn members<R: Source>(
+    alloc: Global,
+    profile: &Profile,
+    reader: &mut R,
+    blocks: &[BlockAt],
+) -> Result<NeededNodes, ScanStop>
+    requires within { IfSome (R.seen reader.old).bytes (λ extract. All (IsShort (length extract)) blocks.now) }
+    requires kinds { All IsOfElements blocks.now }
+    ensures read { Reads (λ needed read. AreNeeded profile.now needed read) blocks.now (R.seen reader.old).bytes result }
+    ensures counts { Counted (survey_failed result) (R.seen reader.old).faults (R.seen reader.new).faults }
+    ensures bytes { (R.seen reader.new).bytes ≡ (R.seen reader.old).bytes }
+{
+    let mut ids: Vec<(OsmId, Unit)> = Vec::new(alloc);
+    for block in blocks {
+        let elements = match load_block(alloc, reader, *block) {
+            Ok(elements) => elements,
+            Err(stop) => return Err(stop),
+        };
+        match put_needed(&mut ids, alloc, profile, elements.ways.as_slice()) {
+            Ok(()) => {}
+            Err(Memory) => return Err(ScanStop::Memory),
+        }
+    }
+    Ok(NeededNodes::from_map(ShardMap::joined(ids)))
+}

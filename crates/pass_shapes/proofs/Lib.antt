@@ -1,0 +1,9 @@
+pub mod Gaining
+pub mod Ranging
+pub mod PointItems
+pub mod Walks
+pub mod ZoomItems
+pub mod Drawable
+pub mod Locating
+pub mod WayItems
+pub mod Features
