@@ -1,2 +1,5 @@
 pub mod Appending
+pub mod Looking
+pub mod Numerals
 pub mod Statuses
+pub mod WordCounts

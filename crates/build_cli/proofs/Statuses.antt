@@ -5,14 +5,17 @@ use Rattle.build_one.specs.declared.from.ProfileFrom.{ProfileFrom}
 use Rattle.build_one.specs.declared.stop.Stop.{Stop}
 use Rattle.build_one.specs.declared.stop.Stop.TheVariants as stops
 use Rattle.pmtiles_file.specs.declared.totals.Totals.{Totals}
+use Rattle.pmtiles_read.specs.declared.error.ReadErr.{ReadErr}
+use Rattle.pmtiles_read.specs.declared.error.ReadErr.TheVariants as errors
 use Rattle.tb_outside.specs.Spill.{Runs}
 use Rattle.build_one.specs.Objects.{Objects, extract_in}
 use Rattle.build_one.specs.Due.{Due, due_in}
 use Rattle.build_one.specs.Due as builds
 use Rattle.build_cli.specs.Told.{due_of}
 use Rattle.build_one.specs.Answers.{BuildAnswers, OnBuilt, IfTold}
-use Rattle.build_cli.specs.Command.{Command, build, source_of}
-use Rattle.build_cli.specs.Answers.{Tells, AnswersCommand, due_of_command, IsWritten}
+use Rattle.build_cli.specs.Command.{Command, build, check, show, source_of}
+use Rattle.build_cli.specs.Ended.{Ended, build_ended, look_ended}
+use Rattle.build_cli.specs.Answers.{Tells, AnswersLook, AnswersCommand, due_of_command, IsWritten}
 use Rattle.build_cli.specs.Status.{done, status_of}
 use Rattle.build_cli.specs.declared.status.Refusal.TheVariants.{Words, Stopped}
 
@@ -34,7 +37,7 @@ never_words stops.Sink e = absurd (omega arith)
 never_words stops.NotYet e = absurd (omega arith)
 never_words stops.Memory e = absurd (omega arith)
 
-written : (from : ProfileFrom) (before after : Objects) (console new_console : SinkSeen) (answer : ℕ) (result : Result Totals Stop) → Tells result console new_console answer → BuildAnswers from before after result → answer ≡ done → IsWritten (due_in from before) before after
+written : (from : ProfileFrom) (before after : Objects) (console new_console : SinkSeen) (answer : ℕ) (result : Result Totals Stop) → Tells (build_ended result) console new_console answer → BuildAnswers from before after result → answer ≡ done → IsWritten (due_in from before) before after
 written from before after console new_console answer (Ok totals) told built is = built.written
 written from before after console new_console answer (Err stop) told built is = absurd (never_done stop (sym told.0 ∙ is))
 
@@ -45,16 +48,32 @@ if_told (Some told) P h = h
 pub done_written : (command : Option Command) (before after : Objects) (console new_console : SinkSeen) (answer : ℕ) → AnswersCommand command before after console new_console answer → answer ≡ done → IsWritten (due_of_command command before) before after
 done_written None before after console new_console answer h is = if_told before.spool.runs _ tt
 done_written (Some (build rules extract archive)) before after console new_console answer h is = written (source_of rules) before after console new_console answer h.result h.told h.built is
+done_written (Some (check archive)) before after console new_console answer h is = if_told before.spool.runs _ tt
+done_written (Some (show archive tile)) before after console new_console answer h is = if_told before.spool.runs _ tt
 
-understood : (console new_console : SinkSeen) (answer : ℕ) (result : Result Totals Stop) → Tells result console new_console answer → answer ≡ 2 → ⊥
-understood console new_console answer (Ok totals) (inl t) is = let zero : answer ≡ 0 = t.0 in omega arith
-understood console new_console answer (Ok totals) (inr t) is = let nine : answer ≡ 9 = t.0 in omega arith
+done_is_understood : (text : List ℕ) (console new_console : SinkSeen) (answer : ℕ) → Tells (Ok text) console new_console answer → answer ≡ 2 → ⊥
+done_is_understood text console new_console answer (inl t) is = let zero : answer ≡ 0 = t.0 in omega arith
+done_is_understood text console new_console answer (inr t) is = let nine : answer ≡ 9 = t.0 in omega arith
+
+understood : (console new_console : SinkSeen) (answer : ℕ) (result : Result Totals Stop) → Tells (build_ended result) console new_console answer → answer ≡ 2 → ⊥
+understood console new_console answer (Ok totals) told is = done_is_understood _ console new_console answer told is
 understood console new_console answer (Err stop) told is = never_words stop (sym told.0 ∙ is)
+
+look_understood : (console new_console : SinkSeen) (answer : ℕ) (result : Result (List ℕ) ReadErr) → Tells (look_ended result) console new_console answer → answer ≡ 2 → ⊥
+look_understood console new_console answer (Ok text) told is = done_is_understood text console new_console answer told is
+look_understood console new_console answer (Err errors.Failed) told is = let seven : answer ≡ 7 = told.0 in omega arith
+look_understood console new_console answer (Err (errors.Bad fault)) told is = let eleven : answer ≡ 11 = told.0 in omega arith
+look_understood console new_console answer (Err errors.Memory) told is = let ten : answer ≡ 10 = told.0 in omega arith
+
+is_looking : (text : List ℕ → List ℕ) (before after : Objects) (console new_console : SinkSeen) (answer : ℕ) → AnswersLook text before after console new_console answer → answer ≡ 2 → ⊥
+is_looking text before after console new_console answer h is = look_understood console new_console answer h.result h.told is
 
 pub only_words : (command : Option Command) (before after : Objects) (console new_console : SinkSeen) (answer : ℕ) → AnswersCommand command before after console new_console answer → (answer ≡ status_of Words) ↔ (command ≡ None)
 only_words None before after console new_console answer h = (λ _. refl, λ _. h.status)
 only_words (Some (build rules extract archive)) before after console new_console answer h =
     (λ is. absurd (understood console new_console answer h.result h.told is), λ none. absurd cc)
+only_words (Some (check archive)) before after console new_console answer h = (λ is. absurd (is_looking _ before after console new_console answer h is), λ none. absurd cc)
+only_words (Some (show archive tile)) before after console new_console answer h = (λ is. absurd (is_looking _ before after console new_console answer h is), λ none. absurd cc)
 
 -- the same in the words of objects that tell
 told_by : (runs : Option Runs) (told : Runs) (P : Type 0) → runs ≡ Some told → IfTold runs P → P
@@ -76,6 +95,8 @@ told_grown (Some (build rules extract archive)) before after profile reader old 
     let same : builds.due_of (source_of rules) before.profile.bytes (extract_in before) ≡ builds.due_of (source_of rules) (Some profile) (Some reader) =
     ap (λ t. builds.due_of (source_of rules) t (extract_in before)) p ∙ ap (λ t. builds.due_of (source_of rules) (Some profile) t) r in
     grown (builds.due_of (source_of rules) (Some profile) (Some reader)) before after told old new (subst (λ (o : Option Due). IsWritten o before after) same h) runs was is
+told_grown (Some (check archive)) before after profile reader old new told p r runs h was is = tt
+told_grown (Some (show archive tile)) before after profile reader old new told p r runs h was is = tt
 
 -- both of an answer
 pub told_done : (command : Option Command) (before after : Objects) (console new_console : SinkSeen) (answer : ℕ) (profile reader old new : List ℕ) (told : Runs) → AnswersCommand command before after console new_console answer → answer ≡ done

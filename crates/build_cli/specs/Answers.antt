@@ -1,45 +1,65 @@
 -- What a command's answer says, whatever number of lanes works on it.
-use Rattle.std.specs.Prelude.{◌≡◌, ◌⊎◌, ◌↔◌, ℕ, ◌≤◌, Option, None, Some, IfSome, Result, Ok, Err, List}
+use Rattle.std.specs.Prelude.{◌≡◌, ◌⊎◌, ◌↔◌, ℕ, ◌≤◌, Option, None, Some, IfSome, Result, Ok, Err, List, [], ◌∷◌}
 use Rattle.tb_types.specs.Counts.{Rose}
+use Rattle.tb_outside.specs.Source.{SourceSeen}
 use Rattle.tb_outside.specs.Sink.{SinkSeen, with_more, GrowsByPrefix}
+use Rattle.pmtiles_read.specs.declared.error.ReadErr.{ReadErr}
+use Rattle.archive_text.specs.Answers.{LookAnswers}
+use Rattle.archive_text.specs.Check.{check_text}
+use Rattle.archive_text.specs.Show.{show_text}
 use Rattle.build_one.specs.declared.from.ProfileFrom.{ProfileFrom}
 use Rattle.build_one.specs.declared.stop.Stop.{Stop}
 use Rattle.pmtiles_file.specs.declared.totals.Totals.{Totals}
 use Rattle.build_one.specs.Objects.{Objects}
 use Rattle.build_one.specs.Due.{Due, due_in}
+use Rattle.build_one.specs.Profiles.{IsAlone}
 use Rattle.build_one.specs.Answers.{BuildAnswers, OnBuilt, IfTold}
-use Rattle.build_cli.specs.Command.{Command, build, command_of, source_of}
-use Rattle.build_cli.specs.Line.{success_line, line_of}
+use Rattle.build_cli.specs.Command.{Command, build, check, show, command_of, source_of}
+use Rattle.build_cli.specs.Ended.{Ended, build_ended, look_ended}
+use Rattle.build_cli.specs.Line.{line_of}
 use Rattle.build_cli.specs.Status.{done, sink_failed, status_of}
-use Rattle.build_cli.specs.declared.status.Refusal.TheVariants.{Words, Stopped}
+use Rattle.build_cli.specs.declared.status.Refusal.TheVariants.{Words}
 
 -- the console has a line more, or a prefix of it where its count rose; its count never falls
 pub record HasLine (old new : SinkSeen) (line : List ℕ) : Type 0 where
   pub told : (new.bytes ≡ with_more old.bytes line) ⊎ (Rose old.faults new.faults × GrowsByPrefix old.bytes new.bytes line)
   pub never_falls : old.faults ≤ new.faults
 
--- the console has a line more
-pub record HasWholeLine (old new : SinkSeen) (line : List ℕ) : Type 0 where
-  pub told : new.bytes ≡ with_more old.bytes line
+-- the console has a text more
+pub record HasWholeText (old new : SinkSeen) (text : List ℕ) : Type 0 where
+  pub told : new.bytes ≡ with_more old.bytes text
   pub faults : new.faults ≡ old.faults
 
--- the console failed with a prefix of the line
-pub record LacksLine (old new : SinkSeen) (line : List ℕ) : Type 0 where
-  pub told : GrowsByPrefix old.bytes new.bytes line
+-- the console failed with a prefix of the text
+pub record LacksText (old new : SinkSeen) (text : List ℕ) : Type 0 where
+  pub told : GrowsByPrefix old.bytes new.bytes text
   pub rose : Rose old.faults new.faults
   pub never_falls : old.faults ≤ new.faults
 
--- The status and the console after a build. The line of success is whole, or else the status is that of a sink; a refusal keeps its
+-- The status and the console after a command. The text of success is whole, or else the status is that of a sink; a refusal keeps its
 -- status, whatever becomes of its line.
-abbrev pub Tells : Result Totals Stop → SinkSeen → SinkSeen → ℕ → Type 0
-Tells (Ok totals) old new answer = ((answer ≡ done) × HasWholeLine old new (success_line totals)) ⊎ ((answer ≡ sink_failed) × LacksLine old new (success_line totals))
-Tells (Err stop) old new answer = (answer ≡ status_of (Stopped stop)) × HasLine old new (line_of (Stopped stop))
+abbrev pub Tells : Ended → SinkSeen → SinkSeen → ℕ → Type 0
+Tells (Ok text) old new answer = ((answer ≡ done) × HasWholeText old new text) ⊎ ((answer ≡ sink_failed) × LacksText old new text)
+Tells (Err refusal) old new answer = (answer ≡ status_of refusal) × HasLine old new (line_of refusal)
 
 -- a build by these rules answered, and the status and the console tell of its answer
 pub record AnswersBuild (from : ProfileFrom) (before after : Objects) (console new_console : SinkSeen) (answer : ℕ) : Type 0 where
   pub result : Result Totals Stop
   pub built : BuildAnswers from before after result
-  pub told : Tells result console new_console answer
+  pub told : Tells (build_ended result) console new_console answer
+
+-- the reader of lane 0 was asked for a text of the archive that it has, and those of other lanes weren't used
+abbrev pub LooksAtFirst : (List ℕ → List ℕ) → List SourceSeen → List SourceSeen → Result (List ℕ) ReadErr → Type 0
+LooksAtFirst text [] readers result = ⊥
+LooksAtFirst text (old ∷ others) [] result = ⊥
+LooksAtFirst text (old ∷ others) (new ∷ readers) result = LookAnswers text old new result × (readers ≡ others)
+
+-- a look into an archive answered, status and console tell of its answer, and all but its reader is as it was
+pub record AnswersLook (text : List ℕ → List ℕ) (before after : Objects) (console new_console : SinkSeen) (answer : ℕ) : Type 0 where
+  pub result : Result (List ℕ) ReadErr
+  pub looked : LooksAtFirst text before.readers after.readers result
+  pub unused : after ≡ record before { readers = after.readers }
+  pub told : Tells (look_ended result) console new_console answer
 
 -- the words are no command: nothing but the console is touched
 pub record AnswersWords (before after : Objects) (console new_console : SinkSeen) (answer : ℕ) : Type 0 where
@@ -50,15 +70,27 @@ pub record AnswersWords (before after : Objects) (console new_console : SinkSeen
 abbrev pub AnswersCommand : Option Command → Objects → Objects → SinkSeen → SinkSeen → ℕ → Type 0
 AnswersCommand None before after console new_console answer = AnswersWords before after console new_console answer
 AnswersCommand (Some (build rules extract archive)) before after console new_console answer = AnswersBuild (source_of rules) before after console new_console answer
+AnswersCommand (Some (check archive)) before after console new_console answer = AnswersLook check_text before after console new_console answer
+AnswersCommand (Some (show archive tile)) before after console new_console answer = AnswersLook (show_text tile) before after console new_console answer
+
+-- What a command that leaves them alone doesn't touch, also where objects don't tell what they hold: the profile's source, and the spool with
+-- the archive's sink.
+abbrev pub Leaves : Option Command → Type 0 → Type 0 → Type 0
+Leaves None profile outputs = profile × outputs
+Leaves (Some (build rules extract archive)) profile outputs = IsAlone (source_of rules) → profile
+Leaves (Some (check archive)) profile outputs = profile × outputs
+Leaves (Some (show archive tile)) profile outputs = profile × outputs
 
 -- The promise of a top call.
 abbrev pub Answers : List (List ℕ) → Objects → Objects → SinkSeen → SinkSeen → ℕ → Type 0
 Answers words before after console new_console answer = AnswersCommand (command_of words) before after console new_console answer
 
--- what is due for a command, as far as the objects tell
+-- what is due for a command that builds, as far as the objects tell
 abbrev pub due_of_command : Option Command → Objects → Option Due
 due_of_command None before = None
 due_of_command (Some (build rules extract archive)) before = due_in (source_of rules) before
+due_of_command (Some (check archive)) before = None
+due_of_command (Some (show archive tile)) before = None
 
 -- an archive is due, and stands behind what the archive's sink had, where the spool tells its runs
 abbrev pub IsWritten : Option Due → Objects → Objects → Type 0

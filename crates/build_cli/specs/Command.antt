@@ -1,9 +1,13 @@
 -- What the words of a command line ask for.
 use Rattle.std.specs.Prelude.{ℕ, ◌<◌, Bool, ◌==◌, ◌&&◌, not, nat_eq, Option, None, Some, List, [], ◌∷◌, length, codes, if◌then◌else◌}
+use Rattle.std.specs.Option.{option_map}
 use Rattle.std.specs.List.{starts_with}
 use Rattle.std.specs.Str.{bytes_eq}
+use Rattle.tb_types.specs.declared.tile.TileXyz.{TileXyz}
+use Rattle.hilbert_ids.specs.Ids.{IsTile}
 use Rattle.build_one.specs.declared.from.ProfileFrom.{ProfileFrom}
 use Rattle.build_one.specs.declared.from.ProfileFrom.TheVariants as profiles
+use Rattle.build_cli.specs.Numbers.{tile_of}
 use Rattle.build_cli.specs.declared.command.Command as declared
 use Rattle.build_cli.specs.declared.command.Command.TheVariants as commands
 use Rattle.build_cli.specs.declared.command.Rules as declared_rules
@@ -17,24 +21,39 @@ pub data Rules : Type 0 where
 pub data Command : Type 0 where
   -- build a map by these rules, from an extract to an archive
   build : Rules → List ℕ → List ℕ → Command
+  -- tell what an archive holds
+  check : List ℕ → Command
+  -- tell what a tile of an archive holds
+  show : List ℕ → TileXyz → Command
 
 -- a word that is an argument: not empty, and no option
 abbrev pub is_argument : List ℕ → Bool
 is_argument word = not (length word == 0) && not (starts_with nat_eq word (codes "--"))
 
--- the command of this name with these arguments
-abbrev pub named : List ℕ → List ℕ → List ℕ → List ℕ → Option Command
-named name first extract archive =
-    if bytes_eq name (codes "nodes") then Some (build (by_key first) extract archive) else if bytes_eq name (codes "build") then Some (build (by_profile first) extract archive) else None
+-- the rules of a build of this name
+abbrev pub rules_of : List ℕ → List ℕ → Option Rules
+rules_of name first = if bytes_eq name (codes "nodes") then Some (by_key first) else if bytes_eq name (codes "build") then Some (by_profile first) else None
+
+-- the commands by how many words they have
+abbrev pub check_of : List ℕ → List ℕ → Option Command
+check_of name archive = if bytes_eq name (codes "check") && is_argument archive then Some (check archive) else None
+
+abbrev pub build_of : List ℕ → List ℕ → List ℕ → List ℕ → Option Command
+build_of name first extract archive =
+    if is_argument first && is_argument extract && is_argument archive then option_map (λ rules. build rules extract archive) (rules_of name first) else None
+
+abbrev pub show_of : List ℕ → List ℕ → List ℕ → List ℕ → List ℕ → Option Command
+show_of name archive zoom column row = if bytes_eq name (codes "show") && is_argument archive then option_map (show archive) (tile_of zoom column row) else None
 
 -- the command, or none where the words are no command
 abbrev pub command_of : List (List ℕ) → Option Command
-command_of (name ∷ first ∷ extract ∷ archive ∷ []) = if is_argument first && is_argument extract && is_argument archive then named name first extract archive else None
 command_of [] = None
 command_of (name ∷ []) = None
-command_of (name ∷ first ∷ []) = None
+command_of (name ∷ archive ∷ []) = check_of name archive
 command_of (name ∷ first ∷ second ∷ []) = None
-command_of (name ∷ first ∷ extract ∷ archive ∷ more ∷ words) = None
+command_of (name ∷ first ∷ extract ∷ archive ∷ []) = build_of name first extract archive
+command_of (name ∷ archive ∷ zoom ∷ column ∷ row ∷ []) = show_of name archive zoom column row
+command_of (name ∷ first ∷ second ∷ third ∷ fourth ∷ fifth ∷ words) = None
 
 -- the command that the code has, without where its words lie
 abbrev pub seen_rules : declared_rules.Rules → Rules
@@ -43,6 +62,8 @@ seen_rules (rules.Profile name) = by_profile name.now
 
 abbrev pub seen_command : declared.Command → Command
 seen_command (commands.Build rules extract archive) = build (seen_rules rules) extract.now archive.now
+seen_command (commands.Check archive) = check archive.now
+seen_command (commands.Show archive tile) = show archive.now tile
 
 -- where the profile of a build comes from
 abbrev pub source_of : Rules → ProfileFrom
@@ -54,5 +75,8 @@ abbrev pub IsKeyed : Rules → Type 0
 IsKeyed (by_key key) = 0 < length key
 IsKeyed (by_profile name) = Unit {0}
 
-abbrev pub IsKeyedCommand : Command → Type 0
-IsKeyedCommand (build rules extract archive) = IsKeyed rules
+-- the values of a command are as it needs them: a key isn't empty, a tile lies within its zoom
+abbrev pub HasGoodValues : Command → Type 0
+HasGoodValues (build rules extract archive) = IsKeyed rules
+HasGoodValues (check archive) = Unit {0}
+HasGoodValues (show archive tile) = IsTile tile

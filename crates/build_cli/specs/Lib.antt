@@ -1,6 +1,10 @@
 pub mod Answers
 pub mod Command
+pub mod Ended
 pub mod Line
+pub mod Looks
 pub mod Names
+pub mod Numbers
 pub mod Status
 pub mod Told
+pub mod Worked

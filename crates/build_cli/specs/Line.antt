@@ -11,10 +11,13 @@ use Rattle.profile_rules.specs.declared.fault.Part.TheVariants as parts
 use Rattle.profile_rules.specs.declared.fault.Spot.{Spot}
 use Rattle.profile_rules.specs.declared.fault.ProfileWhy.{ProfileWhy}
 use Rattle.profile_rules.specs.declared.fault.ProfileWhy.TheVariants as faults
+use Rattle.pmtiles_dirs.specs.declared.fault.ArcFault.{ArcFault}
+use Rattle.pmtiles_dirs.specs.declared.fault.ArcWhy.{ArcWhy}
+use Rattle.pmtiles_dirs.specs.declared.fault.ArcWhy.TheVariants as flaws
 use Rattle.build_one.specs.declared.stop.Stop.TheVariants as stops
 use Rattle.pmtiles_file.specs.declared.totals.Totals.{Totals}
 use Rattle.build_cli.specs.declared.status.Refusal.{Refusal}
-use Rattle.build_cli.specs.declared.status.Refusal.TheVariants.{Words, Stopped}
+use Rattle.build_cli.specs.declared.status.Refusal.TheVariants.{Words, Stopped, Faulty}
 
 -- the line of success
 unfoldable pub success_line : Totals → List ℕ
@@ -99,6 +102,23 @@ fault_text faults.Attribute = codes "attribute"
 unfoldable pub profile_line : Spot → ProfileWhy → List ℕ
 profile_line spot why = concat (codes "profile: " ∷ part_text spot.part ∷ number_text spot ∷ codes ": " ∷ fault_text why ∷ codes "\n" ∷ [])
 
+-- why bytes are no archive
+unfoldable pub flaw_text : ArcWhy → List ℕ
+flaw_text flaws.Short = codes "short"
+flaw_text flaws.Magic = codes "magic"
+flaw_text flaws.Version = codes "version"
+flaw_text flaws.Compressed = codes "compressed"
+flaw_text flaws.TileType = codes "tile type"
+flaw_text flaws.Section = codes "section"
+flaw_text flaws.Directory = codes "directory"
+flaw_text flaws.Order = codes "order"
+flaw_text flaws.Depth = codes "depth"
+flaw_text flaws.Tile = codes "tile"
+
+-- the line of an archive with a fault
+unfoldable pub archive_line : ArcFault → List ℕ
+archive_line fault = concat (codes "archive: " ∷ decimal fault.place ∷ codes ": " ∷ flaw_text fault.why ∷ codes "\n" ∷ [])
+
 -- the lines that are the same for all their causes
 unfoldable pub words_line : List ℕ
 words_line = codes "words not understood\n"
@@ -122,3 +142,4 @@ line_of (Stopped (stops.Spill w)) = spill_line w
 line_of (Stopped stops.Sink) = sink_line
 line_of (Stopped stops.NotYet) = not_yet_line
 line_of (Stopped stops.Memory) = memory_line
+line_of (Faulty fault) = archive_line fault

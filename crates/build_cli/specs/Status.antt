@@ -2,7 +2,7 @@
 use Rattle.std.specs.Prelude.{ℕ}
 use Rattle.build_one.specs.declared.stop.Stop.TheVariants as stops
 use Rattle.build_cli.specs.declared.status.Refusal.{Refusal}
-use Rattle.build_cli.specs.declared.status.Refusal.TheVariants.{Words, Stopped}
+use Rattle.build_cli.specs.declared.status.Refusal.TheVariants.{Words, Stopped, Faulty}
 
 -- a command that was done
 abbrev pub done : ℕ
@@ -12,7 +12,8 @@ done = 0
 abbrev pub sink_failed : ℕ
 sink_failed = 9
 
--- the statuses in the order in which a build finds what they tell of, but for the last, which may come at any time
+-- The statuses in the order in which a command finds what they tell of, but for the last, which may come at any time. An archive that
+-- is read has a fault, or a source failed before it was found.
 abbrev pub status_of : Refusal → ℕ
 status_of Words = 2
 status_of (Stopped (stops.Profile spot why)) = 3
@@ -22,3 +23,4 @@ status_of (Stopped (stops.Damage damage)) = 4
 status_of (Stopped (stops.Spill whom)) = 8
 status_of (Stopped stops.Sink) = 9
 status_of (Stopped stops.Memory) = 10
+status_of (Faulty fault) = 11

@@ -1,10 +1,11 @@
 ghost use Rattle.std.specs.Prelude.{◌≡◌, map, string_bytes, length, not, ◌&&◌, ◌==◌, codes, nat_eq, IfSome, IfOk, true};
 ghost use Rattle.std.specs.Option.{option_map};
-ghost use Rattle.build_cli.specs.Command.{IsKeyedCommand, is_argument, named, command_of, seen_command, seen_rules, source_of};
+ghost use Rattle.build_cli.specs.Command.{HasGoodValues, IsKeyed, is_argument, rules_of, check_of, build_of, show_of, command_of, seen_command, seen_rules, source_of};
 
+use crate::number::tile_of;
 use build_one::ProfileFrom;
 use std::alloc::Global;
-use tb_types::{Memory, Text};
+use tb_types::{Memory, Text, TileXyz};
 
 /// Where the rules of a build come from.
 #[derive(Clone, Copy, Debug, PartialEq, Eq)]
@@ -24,55 +25,114 @@ pub enum Command<'a> {
         extract: &'a str,
         archive: &'a str,
     },
+    /// Tell what an archive holds.
+    Check {
+        archive: &'a str,
+    },
+    /// Tell what a tile of an archive holds.
+    Show {
+        archive: &'a str,
+        tile: TileXyz,
+    },
 }
 
-/// The command of these words, or `None` where they are none. A key isn't empty.
+/// The command of these words, or `None` where they are none. A key isn't empty, and a tile lies within its zoom.
 pub fn command_of(words: &[String]) -> Option<Command<'_>>
     ensures command { option_map seen_command result ≡ command_of (map (λ word. string_bytes word) words.now) }
-    ensures keyed { IfSome result (λ c. IsKeyedCommand (seen_command c)) }
+    ensures values { IfSome result (λ c. HasGoodValues (seen_command c)) }
 {
     match words {
-        [name, first, extract, archive] => {
-            if is_argument(first.as_str())
-                && is_argument(extract.as_str())
-                && is_argument(archive.as_str())
-            {
-                named(
-                    name.as_str(),
-                    first.as_str(),
-                    extract.as_str(),
-                    archive.as_str(),
-                )
-            } else {
-                None
-            }
-        }
         [] => None,
         [_] => None,
-        [_, _] => None,
+        [name, archive] => check_of(name.as_str(), archive.as_str()),
         [_, _, _] => None,
-        [_, _, _, _, _, ..] => None,
+        [name, first, extract, archive] => build_of(
+            name.as_str(),
+            first.as_str(),
+            extract.as_str(),
+            archive.as_str(),
+        ),
+        [name, archive, zoom, column, row] => show_of(
+            name.as_str(),
+            archive.as_str(),
+            zoom.as_str(),
+            column.as_str(),
+            row.as_str(),
+        ),
+        [_, _, _, _, _, _, ..] => None,
     }
 }
 
-// The command of this name with these arguments.
-fn named<'a>(name: &str, first: &'a str, extract: &'a str, archive: &'a str) -> Option<Command<'a>>
-    requires { is_argument first.now ≡ true }
-    ensures command { option_map seen_command result ≡ named name.now first.now extract.now archive.now }
-    ensures keyed { IfSome result (λ c. IsKeyedCommand (seen_command c)) }
+// A command of two words.
+fn check_of<'a>(name: &str, archive: &'a str) -> Option<Command<'a>>
+    ensures command { option_map seen_command result ≡ check_of name.now archive.now }
+    ensures values { IfSome result (λ c. HasGoodValues (seen_command c)) }
 {
-    let rules = if name == "nodes" {
-        Rules::Key(first)
-    } else if name == "build" {
-        Rules::Profile(first)
+    if name == "check" && is_argument(archive) {
+        Some(Command::Check { archive })
     } else {
-        return None;
-    };
-    Some(Command::Build {
-        rules,
-        extract,
-        archive,
-    })
+        None
+    }
+}
+
+// A command of four words.
+fn build_of<'a>(
+    name: &str,
+    first: &'a str,
+    extract: &'a str,
+    archive: &'a str,
+) -> Option<Command<'a>>
+    ensures command { option_map seen_command result ≡ build_of name.now first.now extract.now archive.now }
+    ensures values { IfSome result (λ c. HasGoodValues (seen_command c)) }
+{
+    if is_argument(first) && is_argument(extract) && is_argument(archive) {
+        match rules_of(name, first) {
+            Some(rules) => Some(Command::Build {
+                rules,
+                extract,
+                archive,
+            }),
+            None => None,
+        }
+    } else {
+        None
+    }
+}
+
+// The rules of a build of this name.
+fn rules_of<'a>(name: &str, first: &'a str) -> Option<Rules<'a>>
+    requires { is_argument first.now ≡ true }
+    ensures rules { option_map seen_rules result ≡ rules_of name.now first.now }
+    ensures keyed { IfSome result (λ r. IsKeyed (seen_rules r)) }
+{
+    if name == "nodes" {
+        Some(Rules::Key(first))
+    } else if name == "build" {
+        Some(Rules::Profile(first))
+    } else {
+        None
+    }
+}
+
+// A command of five words.
+fn show_of<'a>(
+    name: &str,
+    archive: &'a str,
+    zoom: &str,
+    column: &str,
+    row: &str,
+) -> Option<Command<'a>>
+    ensures command { option_map seen_command result ≡ show_of name.now archive.now zoom.now column.now row.now }
+    ensures values { IfSome result (λ c. HasGoodValues (seen_command c)) }
+{
+    if name == "show" && is_argument(archive) {
+        match tile_of(zoom, column, row) {
+            Some(tile) => Some(Command::Show { archive, tile }),
+            None => None,
+        }
+    } else {
+        None
+    }
 }
 
 // A word that is no option and isn't empty.

@@ -1,4 +1,6 @@
 ghost use Rattle.build_cli.specs.Answers.{DoneMeansWritten, OnlyWordsAreNotUnderstood};
+ghost use Rattle.build_cli.specs.Looks.{DoneMeansShown, LooksAreComplete};
+ghost use Rattle.build_cli.specs.Worked.{WorkedWords};
 
 /// Status 0 means that the archive that is due for the command was written.
 pub fn done_means_written()
@@ -8,4 +10,20 @@ pub fn done_means_written()
 /// Status 2 comes exactly where the words are no command.
 pub fn only_words_are_not_understood()
     ensures { OnlyWordsAreNotUnderstood }
+{}
+
+/// Status 0 of `check` and `show` means that the archive has no fault, that the console has just its text more, and that no count
+/// of faults rose.
+pub fn done_means_shown()
+    ensures { DoneMeansShown }
+{}
+
+/// Where no count of faults rose, `check` and `show` answer 11 exactly where the archive has a fault, else 0, or want of memory.
+pub fn looks_are_complete()
+    ensures { LooksAreComplete }
+{}
+
+/// Worked words of `check` and `show`.
+pub fn worked_words()
+    ensures { WorkedWords }
 {}

@@ -1,16 +1,18 @@
 ghost use Rattle.std.specs.Prelude.{◌≡◌};
 ghost use Rattle.tb_outside.specs.Sink.{SinkAnswers};
-ghost use Rattle.build_cli.specs.Line.{success_line, line_of, object_line, whom_text, lane_text, damage_line, why_text, profile_line, part_text, number_text, fault_text};
+ghost use Rattle.build_cli.specs.Line.{success_line, line_of, object_line, whom_text, lane_text, damage_line, why_text, profile_line, part_text, number_text, fault_text, archive_line, flaw_text};
 ghost use Rattle.build_cli.specs.Answers.{HasLine, Tells};
+ghost use Rattle.build_cli.specs.Ended.{build_ended, look_ended};
 ghost use Rattle.build_cli.specs.Status.{status_of};
 
 use crate::pieces::append_all;
-use crate::status::{DONE, Refusal, SINK_FAILED, status_of};
+use crate::status::{DONE, Refusal, SINK_FAILED, refusal_of, status_of};
+use archive_text::{ArcFault, ArcWhy, ReadErr};
 use build_one::{Stop, Totals};
 use itoa::Buffer;
 use profile_rules::{Part, ProfileWhy, Spot};
 use tb_outside::{Failed, Sink};
-use tb_types::{Damage, Whom, Why};
+use tb_types::{Damage, Text, Whom, Why};
 
 // Tells the console of an archive that is written. It takes no memory.
 #[tactic(auto, unfolding(crate::specs::Line::success_line))]
@@ -39,8 +41,8 @@ fn tell_success<K: Sink>(console: &mut K, totals: Totals) -> Result<(), Failed>
 
 /// Tells the console how a build ended, and gives the status. A console that fails changes nothing of a refusal; behind a whole
 /// archive it is the status of a sink that failed.
-pub fn tell<K: Sink>(console: &mut K, ended: Result<Totals, Stop>) -> u8
-    ensures { Tells ended (K.seen console.old) (K.seen console.new) result }
+pub fn tell_build<K: Sink>(console: &mut K, ended: Result<Totals, Stop>) -> u8
+    ensures { Tells (build_ended ended) (K.seen console.old) (K.seen console.new) result }
 {
     match ended {
         Ok(totals) => match tell_success(console, totals) {
@@ -48,6 +50,19 @@ pub fn tell<K: Sink>(console: &mut K, ended: Result<Totals, Stop>) -> u8
             Err(_) => SINK_FAILED,
         },
         Err(stop) => refuse(console, Refusal::Stopped(stop)),
+    }
+}
+
+/// Tells the console how a look into an archive ended, and gives the status.
+pub fn tell_look<K: Sink>(console: &mut K, ended: Result<Text, ReadErr>) -> u8
+    ensures { Tells (look_ended ended) (K.seen console.old) (K.seen console.new) result }
+{
+    match ended {
+        Ok(text) => match console.append(text.as_str().as_bytes()) {
+            Ok(()) => DONE,
+            Err(Failed) => SINK_FAILED,
+        },
+        Err(e) => refuse(console, refusal_of(e)),
     }
 }
 
@@ -77,6 +92,7 @@ fn tell_refusal<K: Sink>(console: &mut K, refusal: Refusal) -> Result<(), Failed
         Refusal::Stopped(Stop::Sink) => console.append(b"sink: archive\n"),
         Refusal::Stopped(Stop::NotYet) => console.append(b"not built yet\n"),
         Refusal::Stopped(Stop::Memory) => console.append(b"want of memory\n"),
+        Refusal::Faulty(fault) => tell_fault(console, fault),
     }
 }
 
@@ -221,5 +237,41 @@ fn why_text(why: Why) -> &'static [u8]
         Why::Uneven => b"uneven",
         Why::Index => b"index",
         Why::Range => b"range",
+    }
+}
+
+#[tactic(auto, unfolding(crate::specs::Line::archive_line))]
+fn tell_fault<K: Sink>(console: &mut K, fault: ArcFault) -> Result<(), Failed>
+    ensures { SinkAnswers (K.seen console.old) (K.seen console.new) (archive_line fault) result }
+{
+    let mut place = Buffer::new();
+    append_all(
+        console,
+        &[
+            b"archive: ".as_slice(),
+            place.format(fault.place).as_bytes(),
+            b": ".as_slice(),
+            flaw_text(fault.why),
+            b"\n".as_slice(),
+        ],
+    )
+}
+
+// Why bytes are no archive.
+#[tactic(auto, unfolding(crate::specs::Line::flaw_text))]
+fn flaw_text(why: ArcWhy) -> &'static [u8]
+    ensures { result.now ≡ flaw_text why }
+{
+    match why {
+        ArcWhy::Short => b"short",
+        ArcWhy::Magic => b"magic",
+        ArcWhy::Version => b"version",
+        ArcWhy::Compressed => b"compressed",
+        ArcWhy::TileType => b"tile type",
+        ArcWhy::Section => b"section",
+        ArcWhy::Directory => b"directory",
+        ArcWhy::Order => b"order",
+        ArcWhy::Depth => b"depth",
+        ArcWhy::Tile => b"tile",
     }
 }

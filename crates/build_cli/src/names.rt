@@ -12,7 +12,7 @@ use tb_types::{Memory, Seq, Text};
 pub struct Names {
     /// The profile.
     pub profile: Text,
-    /// The extract that is read, once for each lane.
+    /// The extract or the archive that is read, once for each lane.
     pub readers: Seq<Text>,
     /// The archive that is written.
     pub output: Text,
@@ -31,6 +31,8 @@ pub fn names_of(alloc: Global, words: &[String]) -> Result<Option<Names>, Memory
                 archive,
             },
         ) => Ok(Some(named(alloc, profile_name(rules), extract, archive)?)),
+        Some(Command::Check { archive }) => Ok(Some(named(alloc, "", archive, "")?)),
+        Some(Command::Show { archive, .. }) => Ok(Some(named(alloc, "", archive, "")?)),
     }
 }
 
@@ -44,15 +46,15 @@ fn profile_name(rules: Rules<'_>) -> &str
     }
 }
 
-// The names of a command that reads one extract.
-fn named(alloc: Global, profile: &str, extract: &str, archive: &str) -> Result<Names, Memory>
-    ensures { IfOk result (λ names. names ≡ record { profile = profile.now; readers = extract.now ∷ []; output = archive.now }) }
+// The names of a command that reads one file.
+fn named(alloc: Global, profile: &str, reader: &str, output: &str) -> Result<Names, Memory>
+    ensures { IfOk result (λ names. names ≡ record { profile = profile.now; readers = reader.now ∷ []; output = output.now }) }
 {
     let mut readers = Seq::new(alloc);
-    readers.push(Text::copy_of(alloc, extract)?)?;
+    readers.push(Text::copy_of(alloc, reader)?)?;
     Ok(Names {
         profile: Text::copy_of(alloc, profile)?,
         readers,
-        output: Text::copy_of(alloc, archive)?,
+        output: Text::copy_of(alloc, output)?,
     })
 }

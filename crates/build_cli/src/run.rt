@@ -1,24 +1,28 @@
 ghost use Rattle.std.specs.Prelude.{◌≡◌, map, string_bytes};
 ghost use Rattle.build_one.specs.Answers.{BuildAnswers};
 ghost use Rattle.build_one.specs.Objects.{one_lane};
-ghost use Rattle.build_cli.specs.Answers.{Answers, HasLine};
-ghost use Rattle.build_cli.specs.Command.{IsKeyed, seen_rules, source_of};
+ghost use Rattle.build_one.specs.Profiles.{IsAlone};
+ghost use Rattle.build_cli.specs.Answers.{Answers, HasLine, Leaves};
+ghost use Rattle.build_cli.specs.Command.{IsKeyed, command_of, seen_rules, source_of};
 ghost use Rattle.build_cli.specs.Line.{line_of};
 ghost use Rattle.build_cli.specs.Status.{status_of};
 ghost use Rattle.build_cli.specs.declared.status.Refusal.TheVariants.{Stopped};
 ghost use Rattle.build_one.specs.declared.stop.Stop.TheVariants as stops;
 
 use crate::command::{Command, Rules, command_of, source_of};
-use crate::line::{refuse, tell};
+use crate::line::{refuse, tell_build, tell_look};
 use crate::status::Refusal;
+use archive_text::{check_archive, show_tile};
 use build_one::{Stop, Totals, build};
 use std::alloc::Global;
 use tb_outside::{Lane, Sink, Source, Spill};
 
 /// Works one command on one lane, and answers its status: 0 done, 2 no command, 3 the profile is refused, 4 the extract is
-/// damaged, 7 a source failed, 8 the spool failed, 9 a sink failed, 10 want of memory, 13 not built yet.
+/// damaged, 7 a source failed, 8 the spool failed, 9 a sink failed, 10 want of memory, 11 the archive has a fault, 13 not built
+/// yet.
 ///
-/// The console gets one line. The archive's sink gets nothing before all tiles stand in the spool, so it holds the whole archive
+/// The console gets the text of success, or the line of the refusal. `check` and `show` read the archive by the lane's reader,
+/// and use nothing else. Of a build the archive's sink gets nothing before all tiles stand in the spool, so it holds the whole archive
 /// (status 0, and 9 where only the console failed), a prefix of it (8 and 9), or nothing new.
 pub fn run_one<R: Source, S: Spill, K: Sink>(
     alloc: Global,
@@ -33,12 +37,21 @@ pub fn run_one<R: Source, S: Spill, K: Sink>(
         (one_lane R.seen R.seen S.seen K.seen profile.old lane.old spool.old archive.old)
         (one_lane R.seen R.seen S.seen K.seen profile.new lane.new spool.new archive.new) (K.seen console.old) (K.seen console.new) result }
     ensures spill { lane.new.spill ≡ lane.old.spill }
+    ensures unused { Leaves (command_of (map (λ word. string_bytes word) words.now)) (profile.new ≡ profile.old) ((spool.new ≡ spool.old) × (archive.new ≡ archive.old)) }
 {
     match command_of(words) {
         None => refuse(console, Refusal::Words),
         Some(Command::Build { rules, .. }) => {
             let ended = build_by(alloc, rules, profile, lane, spool, archive);
-            tell(console, ended)
+            tell_build(console, ended)
+        }
+        Some(Command::Check { .. }) => {
+            let ended = check_archive(alloc, &mut lane.reader);
+            tell_look(console, ended)
+        }
+        Some(Command::Show { tile, .. }) => {
+            let ended = show_tile(alloc, &mut lane.reader, tile);
+            tell_look(console, ended)
         }
     }
 }
@@ -55,6 +68,7 @@ fn build_by<R: Source, S: Spill, K: Sink>(
     requires keyed { IsKeyed (seen_rules rules) }
     ensures answers { BuildAnswers (source_of (seen_rules rules.entry)) (one_lane R.seen R.seen S.seen K.seen profile.old lane.old spool.old archive.old)
         (one_lane R.seen R.seen S.seen K.seen profile.new lane.new spool.new archive.new) result }
+    ensures alone { IsAlone (source_of (seen_rules rules.entry)) → profile.new ≡ profile.old }
     ensures spill { lane.new.spill ≡ lane.old.spill }
 {
     match source_of(alloc, rules) {

@@ -7,10 +7,12 @@ ghost use Rattle.build_cli.specs.Told.{due_of};
 
 mod damage;
 mod failing;
+mod looks;
 mod many;
 mod maps;
 mod places;
 mod profiles;
+mod ways;
 mod words;
 mod zooms;
 

@@ -1,9 +1,12 @@
 use super::{CAFE, Faults, NONE, nodes};
 use std::test::Fail;
 
-// The calls of the reader over the header frame and one data frame: the size, two loads for each header, and one for each
-// body.
-const READER_CALLS: u64 = 7;
+// The survey's calls of the reader over the header frame and one data frame: the size, two loads for each header, and one
+// for each body.
+const SURVEY_CALLS: u64 = 7;
+
+// Behind it the block of nodes is loaded again.
+const READER_CALLS: u64 = SURVEY_CALLS + 1;
 
 // The pieces of the line of success, and that line.
 const SUCCESS_CALLS: u64 = 9;
@@ -34,7 +37,7 @@ fn reader_faults_are_told(rt: HostRuntime) -> Result<(), Fail> {
     }
     // A fault behind damage is answered before it.
     let faults = Faults {
-        reader: &[READER_CALLS - 1],
+        reader: &[SURVEY_CALLS - 1],
         ..NONE
     };
     let ran = nodes(alloc, "amenity", DAMAGED, &faults)?;

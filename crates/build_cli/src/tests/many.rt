@@ -59,7 +59,7 @@ fn block(alloc: Global) -> Result<Vec<u8>, Memory> {
 }
 
 // The header frame, and a data frame of that block.
-fn extract(alloc: Global) -> Result<Vec<u8>, Memory> {
+pub(super) fn extract(alloc: Global) -> Result<Vec<u8>, Memory> {
     let mut blob = Vec::new(alloc);
     put_len(&mut blob, 1, &block(alloc)?)?;
     let mut header = Vec::new(alloc);

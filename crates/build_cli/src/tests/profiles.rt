@@ -30,8 +30,8 @@ fn profiles_are_judged(rt: HostRuntime) -> Result<(), Fail> {
         ),
         (
             b"format = 1\nmaxzoom = 0\n[[layer]]\nid = \"a\"\n[[rule]]\nlayer = \"a\"\nkind = \"line\"\n",
-            13,
-            b"not built yet\n",
+            4,
+            b"damage: block 0: no header\n",
         ),
     ];
     for (profile, status, line) in cases {

@@ -5,7 +5,7 @@ use std::test::Fail;
 #[test]
 fn words_name_files(rt: HostRuntime) -> Result<(), Fail> {
     let alloc = rt.alloc();
-    let cases: [&[&str]; 8] = [
+    let cases: [&[&str]; 12] = [
         &[],
         &["nodes", "amenity", "e"],
         &["nodes", "amenity", "e", "a", "b"],
@@ -14,6 +14,10 @@ fn words_name_files(rt: HostRuntime) -> Result<(), Fail> {
         &["rehearse", "p", "e", "a"],
         &["--help", "amenity", "e", "a"],
         &["build", "p", "e", "--lanes"],
+        &["check", "--lanes"],
+        &["check", "a", "b"],
+        &["show", "a", "27", "0", "0"],
+        &["show", "a", "1", "+1", "0"],
     ];
     for case in cases {
         let mut words = Vec::new(alloc);

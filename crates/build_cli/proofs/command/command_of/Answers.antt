@@ -1,0 +1,9 @@
+use Rattle.std.proofs.Common.{sym, string_bytes}
+use Rattle.build_cli.proofs.WordCounts.{three-words, many-words}
+use Rattle.build_cli.proofs.command.command_of.Goals as goal
+
+pub returns-in-len3-clause-command : goal.returns-in-len3-clause-command
+returns-in-len3-clause-command c = sym (three-words (λ word. string_bytes word) c.args.words.now c.in-len3.len_at_least c.in-len3.len_below)
+
+pub returns-in-len6-up-clause-command : goal.returns-in-len6-up-clause-command
+returns-in-len6-up-clause-command c = sym (many-words (λ word. string_bytes word) c.args.words.now c.in-len6-up.len_at_least)

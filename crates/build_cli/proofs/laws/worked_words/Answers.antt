@@ -1,0 +1,20 @@
+use Rattle.std.proofs.Common.{refl}
+use Rattle.std.specs.Fmt.{digits}
+use Rattle.build_cli.proofs.laws.worked_words.Goals as goal
+
+pub returns : goal.returns
+unfolding digits
+returns c = record {
+  all = refl;
+  whole = refl;
+  last = refl;
+  far_zoom = refl;
+  far_column = refl;
+  leading_zero = refl;
+  sign = refl;
+  no_digit = refl;
+  letter = refl;
+  no_archive = refl;
+  option = refl;
+  few = refl;
+}

@@ -1,0 +1,29 @@
+-- How a command ended: with the text of success, or refused.
+use Rattle.std.specs.Prelude.{ℕ, Result, Ok, Err, List}
+use Rattle.tb_types.specs.declared.trouble.Whom.TheVariants as whom
+use Rattle.pmtiles_file.specs.declared.totals.Totals.{Totals}
+use Rattle.pmtiles_read.specs.declared.error.ReadErr.{ReadErr}
+use Rattle.pmtiles_read.specs.declared.error.ReadErr.TheVariants as errors
+use Rattle.build_one.specs.declared.stop.Stop.{Stop}
+use Rattle.build_one.specs.declared.stop.Stop.TheVariants as stops
+use Rattle.build_cli.specs.declared.status.Refusal.{Refusal}
+use Rattle.build_cli.specs.declared.status.Refusal.TheVariants.{Stopped, Faulty}
+use Rattle.build_cli.specs.Line.{success_line}
+
+abbrev pub Ended : Type 0
+Ended = Result (List ℕ) Refusal
+
+-- a build
+abbrev pub build_ended : Result Totals Stop → Ended
+build_ended (Ok totals) = Ok (success_line totals)
+build_ended (Err stop) = Err (Stopped stop)
+
+-- a look into the archive of lane 0's reader
+abbrev pub refusal_of : ReadErr → Refusal
+refusal_of errors.Failed = Stopped (stops.Source (whom.Lane 0))
+refusal_of (errors.Bad fault) = Faulty fault
+refusal_of errors.Memory = Stopped stops.Memory
+
+abbrev pub look_ended : Result (List ℕ) ReadErr → Ended
+look_ended (Ok text) = Ok text
+look_ended (Err e) = Err (refusal_of e)

@@ -1,0 +1,52 @@
+ghost use Rattle.std.specs.Prelude.{◌≡◌, ◌-◌, ◌^◌, ◌≤◌, IfSome};
+ghost use Rattle.hilbert_ids.specs.Ids.{IsTile, last_zoom};
+ghost use Rattle.build_cli.specs.Numbers.{number_of, tile_of};
+
+use hilbert_ids::MAX_ZOOM;
+use itoa::Buffer;
+use tb_types::TileXyz;
+
+/// The number that a word is, if it is at most `most`: decimal digits without a sign, and without leading zeros but `0`.
+pub fn number_of(word: &str, most: u64) -> Option<u64>
+    ensures number { result ≡ number_of word.now most }
+    ensures within { IfSome result (λ n. n ≤ most) }
+{
+    let n = match word.parse::<u64>() {
+        Ok(n) => n,
+        Err(_) => return None,
+    };
+    let mut digits = Buffer::new();
+    if digits.format(n) == word && n <= most {
+        Some(n)
+    } else {
+        None
+    }
+}
+
+/// The tile of a zoom, a column and a row: the zoom is at most 26, column and row are below 2^zoom.
+pub fn tile_of(zoom: &str, column: &str, row: &str) -> Option<TileXyz>
+    ensures tile { result ≡ tile_of zoom.now column.now row.now }
+    ensures within { IfSome result IsTile }
+{
+    let z = match number_of(zoom, u64::from(MAX_ZOOM)) {
+        Some(z) => z as u8,
+        None => return None,
+    };
+    let last = last_of(z);
+    let x = match number_of(column, u64::from(last)) {
+        Some(x) => x as u32,
+        None => return None,
+    };
+    match number_of(row, u64::from(last)) {
+        Some(y) => Some(TileXyz { z, x, y: y as u32 }),
+        None => None,
+    }
+}
+
+// The last column, and the last row, of a zoom.
+fn last_of(zoom: u8) -> u32
+    requires { zoom ≤ last_zoom }
+    ensures { result ≡ 2 ^ zoom - 1 }
+{
+    (1 << zoom) - 1
+}
