@@ -90,4 +90,5 @@ def main():
             out.write(ways(first + 1, min(BLOCK, count - first), nodes, draw))
 
 
-main()
+if __name__ == "__main__":
+    main()
