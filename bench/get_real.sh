@@ -1,8 +1,9 @@
 #!/usr/bin/env bash
-# Fetches a real extract, the one in the tests of Debian's source package of osm2pgsql, and writes it with raw blobs.
-# Usage: bash bench/get_real.sh FILE. Answers 1 where it can't be had. Outside the gate.
+# Fetches a real extract, the one in the tests of Debian's source package of osm2pgsql, or another file of these, and writes it with raw blobs.
+# Usage: bash bench/get_real.sh FILE [NAME]. Answers 1 where it can't be had. Outside the gate.
 set -eu
 out=$1
+name=${2:-liechtenstein*.osm.pbf}
 for tool in apt-get tar; do
   command -v "$tool" >/dev/null 2>&1 || { echo "get_real: there is no $tool"; exit 1; }
 done
@@ -17,5 +18,5 @@ apt() {
   apt-get -o Dir::Etc::sourcelist=/dev/null -o Dir::Etc::sourceparts="$work/sources" -o Dir::State::lists="$work/lists" -o Dir::Cache="$work/cache" "$@"
 }
 (apt update && cd "$work" && apt source --download-only osm2pgsql) >/dev/null 2>&1 || { echo "get_real: the source package can't be fetched"; exit 1; }
-tar xf "$work"/osm2pgsql_*.orig.tar.xz -C "$work" --wildcards '*/tests/data/liechtenstein*.osm.pbf'
-osmium cat --no-progress --overwrite -f pbf,pbf_compression=none -o "$out" "$work"/osm2pgsql-*/tests/data/liechtenstein*.osm.pbf
+tar xf "$work"/osm2pgsql_*.orig.tar.xz -C "$work" --wildcards "*/tests/data/$name"
+osmium cat --no-progress --overwrite -f pbf,pbf_compression=none -o "$out" "$work"/osm2pgsql-*/tests/data/$name

@@ -9,7 +9,7 @@ use Rattle.pmtiles_read.specs.declared.error.ReadErr.{ReadErr}
 use Rattle.pmtiles_read.specs.declared.error.ReadErr.TheVariants as errors
 use Rattle.archive_text.specs.Answers.{LookAnswers}
 use Rattle.archive_text.specs.Due.{first_fault, unless_fault, due_of}
-use Rattle.build_one.specs.Objects.{Objects, Role, reading, spilling, writing, CountsStay, NoneRose, first_bytes, extract_in, reader_count, count_of}
+use Rattle.tile_model.specs.Objects.{Objects, Role, reading, spilling, writing, CountsStay, NoneRose, first_bytes, extract_in, reader_count, count_of}
 use Rattle.build_cli.specs.Ended.{look_ended}
 use Rattle.build_cli.specs.Status.{done}
 use Rattle.build_cli.specs.Command.{Command, build, check, show}

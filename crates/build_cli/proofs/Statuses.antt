@@ -1,16 +1,16 @@
 -- What statuses say of the answers that stand behind them.
 use Rattle.std.proofs.Common.{◌≡◌, inl, inr, ◌↔◌, ℕ, Option, None, Some, IfSome, Result, Ok, Err, List, ◌++◌, refl, sym, ap, subst, ◌∙◌, arith}
 use Rattle.tb_outside.specs.Sink.{SinkSeen, with_more}
-use Rattle.build_one.specs.declared.from.ProfileFrom.{ProfileFrom}
-use Rattle.build_one.specs.declared.stop.Stop.{Stop}
-use Rattle.build_one.specs.declared.stop.Stop.TheVariants as stops
-use Rattle.pmtiles_file.specs.declared.totals.Totals.{Totals}
+use Rattle.tile_model.specs.declared.from.ProfileFrom.{ProfileFrom}
+use Rattle.tile_model.specs.declared.stop.Stop.{Stop}
+use Rattle.tile_model.specs.declared.stop.Stop.TheVariants as stops
+use Rattle.pmtiles_dirs.specs.declared.totals.Totals.{Totals}
 use Rattle.pmtiles_read.specs.declared.error.ReadErr.{ReadErr}
 use Rattle.pmtiles_read.specs.declared.error.ReadErr.TheVariants as errors
 use Rattle.tb_outside.specs.Spill.{Runs}
-use Rattle.build_one.specs.Objects.{Objects, extract_in}
-use Rattle.build_one.specs.Due.{Due, due_in}
-use Rattle.build_one.specs.Due as builds
+use Rattle.tile_model.specs.Objects.{Objects, extract_in}
+use Rattle.tile_model.specs.Due.{Due, due_in}
+use Rattle.tile_model.specs.Due as builds
 use Rattle.build_cli.specs.Told.{due_of}
 use Rattle.build_one.specs.Answers.{BuildAnswers, OnBuilt, IfTold}
 use Rattle.build_cli.specs.Command.{Command, build, check, show, source_of}

@@ -7,12 +7,12 @@ use Rattle.pmtiles_read.specs.declared.error.ReadErr.{ReadErr}
 use Rattle.archive_text.specs.Answers.{LookAnswers}
 use Rattle.archive_text.specs.Check.{check_text}
 use Rattle.archive_text.specs.Show.{show_text}
-use Rattle.build_one.specs.declared.from.ProfileFrom.{ProfileFrom}
-use Rattle.build_one.specs.declared.stop.Stop.{Stop}
-use Rattle.pmtiles_file.specs.declared.totals.Totals.{Totals}
-use Rattle.build_one.specs.Objects.{Objects}
-use Rattle.build_one.specs.Due.{Due, due_in}
-use Rattle.build_one.specs.Profiles.{IsAlone}
+use Rattle.tile_model.specs.declared.from.ProfileFrom.{ProfileFrom}
+use Rattle.tile_model.specs.declared.stop.Stop.{Stop}
+use Rattle.pmtiles_dirs.specs.declared.totals.Totals.{Totals}
+use Rattle.tile_model.specs.Objects.{Objects}
+use Rattle.tile_model.specs.Due.{Due, due_in}
+use Rattle.tile_model.specs.From.{IsAlone}
 use Rattle.build_one.specs.Answers.{BuildAnswers, OnBuilt, IfTold}
 use Rattle.build_cli.specs.Command.{Command, build, check, show, command_of, source_of}
 use Rattle.build_cli.specs.Ended.{Ended, build_ended, look_ended}

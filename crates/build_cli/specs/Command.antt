@@ -5,8 +5,8 @@ use Rattle.std.specs.List.{starts_with}
 use Rattle.std.specs.Str.{bytes_eq}
 use Rattle.tb_types.specs.declared.tile.TileXyz.{TileXyz}
 use Rattle.hilbert_ids.specs.Ids.{IsTile}
-use Rattle.build_one.specs.declared.from.ProfileFrom.{ProfileFrom}
-use Rattle.build_one.specs.declared.from.ProfileFrom.TheVariants as profiles
+use Rattle.tile_model.specs.declared.from.ProfileFrom.{ProfileFrom}
+use Rattle.tile_model.specs.declared.from.ProfileFrom.TheVariants as profiles
 use Rattle.build_cli.specs.Numbers.{tile_of}
 use Rattle.build_cli.specs.declared.command.Command as declared
 use Rattle.build_cli.specs.declared.command.Command.TheVariants as commands

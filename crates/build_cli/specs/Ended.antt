@@ -1,11 +1,11 @@
 -- How a command ended: with the text of success, or refused.
 use Rattle.std.specs.Prelude.{ℕ, Result, Ok, Err, List}
 use Rattle.tb_types.specs.declared.trouble.Whom.TheVariants as whom
-use Rattle.pmtiles_file.specs.declared.totals.Totals.{Totals}
+use Rattle.pmtiles_dirs.specs.declared.totals.Totals.{Totals}
 use Rattle.pmtiles_read.specs.declared.error.ReadErr.{ReadErr}
 use Rattle.pmtiles_read.specs.declared.error.ReadErr.TheVariants as errors
-use Rattle.build_one.specs.declared.stop.Stop.{Stop}
-use Rattle.build_one.specs.declared.stop.Stop.TheVariants as stops
+use Rattle.tile_model.specs.declared.stop.Stop.{Stop}
+use Rattle.tile_model.specs.declared.stop.Stop.TheVariants as stops
 use Rattle.build_cli.specs.declared.status.Refusal.{Refusal}
 use Rattle.build_cli.specs.declared.status.Refusal.TheVariants.{Stopped, Faulty}
 use Rattle.build_cli.specs.Line.{success_line}

@@ -14,8 +14,8 @@ use Rattle.profile_rules.specs.declared.fault.ProfileWhy.TheVariants as faults
 use Rattle.pmtiles_dirs.specs.declared.fault.ArcFault.{ArcFault}
 use Rattle.pmtiles_dirs.specs.declared.fault.ArcWhy.{ArcWhy}
 use Rattle.pmtiles_dirs.specs.declared.fault.ArcWhy.TheVariants as flaws
-use Rattle.build_one.specs.declared.stop.Stop.TheVariants as stops
-use Rattle.pmtiles_file.specs.declared.totals.Totals.{Totals}
+use Rattle.tile_model.specs.declared.stop.Stop.TheVariants as stops
+use Rattle.pmtiles_dirs.specs.declared.totals.Totals.{Totals}
 use Rattle.build_cli.specs.declared.status.Refusal.{Refusal}
 use Rattle.build_cli.specs.declared.status.Refusal.TheVariants.{Words, Stopped, Faulty}
 

@@ -6,8 +6,8 @@ use Rattle.pmtiles_dirs.specs.declared.fault.ArcFault.{ArcFault}
 use Rattle.archive_text.specs.Check.{check_text}
 use Rattle.archive_text.specs.Show.{show_text}
 use Rattle.archive_text.specs.Due.{due_of}
-use Rattle.build_one.specs.declared.stop.Stop.TheVariants as stops
-use Rattle.build_one.specs.Objects.{Objects, CountsStay, NoneRose, extract_in}
+use Rattle.tile_model.specs.declared.stop.Stop.TheVariants as stops
+use Rattle.tile_model.specs.Objects.{Objects, CountsStay, NoneRose, extract_in}
 use Rattle.build_cli.specs.declared.status.Refusal.TheVariants.{Stopped, Faulty}
 use Rattle.build_cli.specs.Command.{Command, build, check, show, command_of}
 use Rattle.build_cli.specs.Status.{done, status_of}

@@ -1,6 +1,6 @@
 -- The statuses of the program, by what ends a command.
 use Rattle.std.specs.Prelude.{ℕ}
-use Rattle.build_one.specs.declared.stop.Stop.TheVariants as stops
+use Rattle.tile_model.specs.declared.stop.Stop.TheVariants as stops
 use Rattle.build_cli.specs.declared.status.Refusal.{Refusal}
 use Rattle.build_cli.specs.declared.status.Refusal.TheVariants.{Words, Stopped, Faulty}
 

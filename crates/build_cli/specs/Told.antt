@@ -1,6 +1,6 @@
 -- What is due of a build where profile and extract are told.
 use Rattle.std.specs.Prelude.{ℕ, Option, None, Some, List}
-use Rattle.build_one.specs.Due as builds
+use Rattle.tile_model.specs.Due as builds
 use Rattle.build_cli.specs.Command.{Command, build, check, show, source_of}
 
 abbrev pub due_of : Option Command → List ℕ → List ℕ → Option builds.Due

@@ -1,13 +1,13 @@
 ghost use Rattle.std.specs.Prelude.{◌≡◌, map, string_bytes};
 ghost use Rattle.build_one.specs.Answers.{BuildAnswers};
-ghost use Rattle.build_one.specs.Objects.{one_lane};
-ghost use Rattle.build_one.specs.Profiles.{IsAlone};
+ghost use Rattle.tile_model.specs.Objects.{one_lane};
+ghost use Rattle.tile_model.specs.From.{IsAlone};
 ghost use Rattle.build_cli.specs.Answers.{Answers, HasLine, Leaves};
 ghost use Rattle.build_cli.specs.Command.{IsKeyed, command_of, seen_rules, source_of};
 ghost use Rattle.build_cli.specs.Line.{line_of};
 ghost use Rattle.build_cli.specs.Status.{status_of};
 ghost use Rattle.build_cli.specs.declared.status.Refusal.TheVariants.{Stopped};
-ghost use Rattle.build_one.specs.declared.stop.Stop.TheVariants as stops;
+ghost use Rattle.tile_model.specs.declared.stop.Stop.TheVariants as stops;
 
 use crate::command::{Command, Rules, command_of, source_of};
 use crate::line::{refuse, tell_build, tell_look};

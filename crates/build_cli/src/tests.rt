@@ -12,6 +12,7 @@ mod many;
 mod maps;
 mod places;
 mod profiles;
+mod relations;
 mod ways;
 mod words;
 mod zooms;

@@ -112,7 +112,7 @@ apart-if : (parts : Parts) (found : Result (List Content) Damage) → AreGood 0 
 apart-if parts (Ok contents) g =
     let differ = AllPairs_from_pairs (λ (a b : ℕ × Block). a.0 ≢ b.0) (blocks_in contents) g.1 in
     let numbered = All-from_recursion (λ (b : ℕ × Block). AreNumbered b.1) (blocks_in contents) g.2 in
-    record { names = laws.extracts.differ parts (blocks_in contents) differ numbered; places = laws.extracts.placed (blocks_in contents) differ numbered }
+    record { names = laws.extracts.differ parts (blocks_in contents) differ numbered; places = laws.extracts.placed (blocks_in contents) differ numbered; ways = laws.extracts.ways_placed (blocks_in contents) differ numbered }
 apart-if parts (Err damage) g = tt
 
 pub apart : (parts : Parts) (extract : List ℕ) (blocks : List BlockAt) → IsNumbered blocks → AreApart parts (contents_at extract blocks)

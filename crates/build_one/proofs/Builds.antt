@@ -13,20 +13,20 @@ use Rattle.pbf_blobs.specs.declared.stop.ScanStop.{ScanStop}
 use Rattle.pbf_blobs.specs.declared.stop.ScanStop.TheVariants as scan_stops
 use Rattle.profile_rules.specs.declared.parts.Parts.{Parts}
 use Rattle.profile_rules.specs.Faults.{Fault}
-use Rattle.pmtiles_file.specs.declared.totals.Totals.{Totals}
+use Rattle.pmtiles_dirs.specs.declared.totals.Totals.{Totals}
 use Rattle.build_one.specs.declared.found.Found.{Found}
-use Rattle.build_one.specs.declared.from.ProfileFrom.{ProfileFrom}
-use Rattle.build_one.specs.declared.stop.Stop.{Stop}
-use Rattle.build_one.specs.declared.stop.Stop.TheVariants as stops
+use Rattle.tile_model.specs.declared.from.ProfileFrom.{ProfileFrom}
+use Rattle.tile_model.specs.declared.stop.Stop.{Stop}
+use Rattle.tile_model.specs.declared.stop.Stop.TheVariants as stops
 use Rattle.build_one.specs.Answers.{BuildAnswers, IsDue, IsJudged, HasCause, Writes, ends_early, ends_before_tiles}
 use Rattle.tile_model.specs.Contents.{Content, contents_of}
-use Rattle.build_one.specs.Due.{Due, due_of_tiles, due_of_contents, due_of_extract, due_of_profile, parts_from}
+use Rattle.tile_model.specs.Due.{Due, due_of_tiles, due_of_contents, due_of_extract, due_of_profile, parts_from}
 use Rattle.build_one.specs.Made.{IsDueBy, IsKnown, MapCounts, MapWritten}
 use Rattle.build_one.specs.Passes.{Gathers}
 use Rattle.tile_model.specs.Bounds.{first_box}
 use Rattle.tile_model.specs.Map.{meta_of, tiles_of}
-use Rattle.build_one.specs.Profiles.{IsAlone}
-use Rattle.build_one.specs.Stops.{stop_of_survey}
+use Rattle.tile_model.specs.From.{IsAlone}
+use Rattle.build_one.specs.Stages.{stop_of_survey}
 use Rattle.build_one.specs.Survey.{Surveys, survey_failed}
 use Rattle.build_one.proofs.Causes
 use Rattle.build_one.proofs.Tiling.{kept-self}
@@ -47,31 +47,22 @@ on-due (Some found) parts extract P is none some = subst P (sym (ap (λ f. due_o
 abbrev AreSurveyed : Parts → Found → Option (List ℕ) → Type 0
 AreSurveyed parts found extract = IfSome extract (λ bytes. Surveys parts bytes (Ok found) (contents_of bytes))
 
--- by contents without a kept relation, of which all items were gathered
-known-if : (parts : Parts) (found : Found) (bytes : List ℕ) (items : List RunItem) (box : Option Bounds) (contents : Result (List Content) Damage) → Surveys parts bytes (Ok found) contents → found.kept ≡ false
+-- by contents of which all items were gathered
+known-if : (parts : Parts) (found : Found) (bytes : List ℕ) (items : List RunItem) (box : Option Bounds) (contents : Result (List Content) Damage) → Surveys parts bytes (Ok found) contents
     → Gathers parts bytes found (Ok items) → box ≡ unwrap_or found.header_box None → IsDueBy parts items box (due_of_contents parts contents)
-known-if parts found bytes items box (Ok contents) h kept gathers is = record {
+known-if parts found bytes items box (Ok contents) h gathers is = record {
   contents = contents;
-  is = ap (λ b. cond b (Err stops.NotYet) (due_of_tiles (meta_of parts (first_box contents)) (tiles_of parts contents))) (sym h.0.kept ∙ kept);
+  is = refl;
   same = gathers contents h.0 h.1;
   box_is = is ∙ ap (λ b. unwrap_or b None) h.0.box;
   names = h.1.names;
 }
-known-if parts found bytes items box (Err damage) h kept gathers is = absurd h.0
+known-if parts found bytes items box (Err damage) h gathers is = absurd h.0
 
-known : (parts : Parts) (found : Found) (extract : Option (List ℕ)) (items : List RunItem) (box : Option Bounds) → AreSurveyed parts found extract → found.kept ≡ false → IfSome extract (λ bytes. Gathers parts bytes found (Ok items))
+known : (parts : Parts) (found : Found) (extract : Option (List ℕ)) (items : List RunItem) (box : Option Bounds) → AreSurveyed parts found extract → IfSome extract (λ bytes. Gathers parts bytes found (Ok items))
     → box ≡ unwrap_or found.header_box None → IsKnown parts items box (option_map (due_of_extract parts) extract)
-known parts found None items box h kept gathers is = tt
-known parts found (Some bytes) items box h kept gathers is = known-if parts found bytes items box (contents_of bytes) h kept gathers is
-
--- a kept relation isn't built yet
-kept-if : (parts : Parts) (found : Found) (bytes : List ℕ) (contents : Result (List Content) Damage) → Surveys parts bytes (Ok found) contents → found.kept ≡ true → due_of_contents parts contents ≡ Err stops.NotYet
-kept-if parts found bytes (Ok contents) h kept = ap (λ b. cond b (Err stops.NotYet) (due_of_tiles (meta_of parts (first_box contents)) (tiles_of parts contents))) (sym h.0.kept ∙ kept)
-kept-if parts found bytes (Err damage) h kept = absurd h.0
-
-kept-due : (parts : Parts) (found : Found) (runs : Option Runs) (extract : Option (List ℕ)) → AreSurveyed parts found extract → found.kept ≡ true → IfSome (option_map (due_of_extract parts) extract) (IsDue runs (Err stops.NotYet))
-kept-due parts found runs None h kept = tt
-kept-due parts found runs (Some bytes) h kept = kept-if parts found bytes (contents_of bytes) h kept
+known parts found None items box h gathers is = tt
+known parts found (Some bytes) items box h gathers is = known-if parts found bytes items box (contents_of bytes) h gathers is
 
 -- the passes behind the survey find no damage
 none-if : (parts : Parts) (found : Found) (bytes : List ℕ) (damage : Damage) (contents : Result (List Content) Damage) → Surveys parts bytes (Ok found) contents → Gathers parts bytes found (Err (scan_stops.Damage damage)) → ⊥
@@ -131,12 +122,12 @@ pub record ReadsParts (from : ProfileFrom) (p p' : SourceSeen) (parts : Parts) :
 module _ (from : ProfileFrom) (p p' r : SourceSeen) (s o : SpillSeen) (k : SinkSeen) (parts : Parts) (q : ReadsParts from p p' parts) where
   module _ (r' : SourceSeen) (bytes : r'.bytes ≡ r.bytes) where
     -- the map is written, or it isn't
-    pub map-answers : (o' : SpillSeen) (k' : SinkSeen) (found : Found) (items : List RunItem) (box : Option Bounds) (result : Result Totals Stop) → r'.faults ≡ r.faults → AreSurveyed parts found r.bytes → found.kept ≡ false
+    pub map-answers : (o' : SpillSeen) (k' : SinkSeen) (found : Found) (items : List RunItem) (box : Option Bounds) (result : Result Totals Stop) → r'.faults ≡ r.faults → AreSurveyed parts found r.bytes
         → IfSome r.bytes (λ bytes. Gathers parts bytes found (Ok items)) → box ≡ unwrap_or found.header_box None → ((due : Option Due) → IsKnown parts items box due → MapWritten due o o' k k' result)
         → BuildAnswers from (Causes.before p p' r r' s o o' k k') (Causes.after p p' r r' s o o' k k') result
-    map-answers o' k' found items box result faults surveys kept gathers is writes =
+    map-answers o' k' found items box result faults surveys gathers is writes =
         let m : MapWritten (due_by (parts_from from p.bytes) r.bytes) o o' k k' result =
-        writes (due_by (parts_from from p.bytes) r.bytes) (on-due (parts_from from p.bytes) parts r.bytes (IsKnown parts items box) q.told tt (known parts found r.bytes items box surveys kept gathers is)) in
+        writes (due_by (parts_from from p.bytes) r.bytes) (on-due (parts_from from p.bytes) parts r.bytes (IsKnown parts items box) q.told tt (known parts found r.bytes items box surveys gathers is)) in
         let early = never-early result o o' k k' m.counts in
         record {
           told = m.told;
@@ -192,13 +183,6 @@ module _ (from : ProfileFrom) (p p' r : SourceSeen) (s o : SpillSeen) (k : SinkS
         refused (stops.Source (whom.Lane 0)) (nothing-due (due_by (parts_from from p.bytes) r.bytes)) tt (Causes.reader-rose p p' r r' s o o k k q.faults counts.0) counts.1 refl refl
     survey-refused scan_stops.Memory counts h =
         refused stops.Memory (nothing-due (due_by (parts_from from p.bytes) r.bytes)) tt (Causes.all-stay p p' r r' s o o k k q.faults counts refl refl) (same-le _ _ counts) refl refl
-
-    -- a relation is kept, which isn't built yet
-    pub kept-refused : (found : Found) → r'.faults ≡ r.faults → AreSurveyed parts found r.bytes → found.kept ≡ true → BuildAnswers from (Causes.before p p' r r' s o o k k) (Causes.after p p' r r' s o o k k) (Err stops.NotYet)
-    kept-refused found counts h kept =
-        refused stops.NotYet
-        (on-due (parts_from from p.bytes) parts r.bytes (λ due. IfSome due (IsDue o.runs (Err stops.NotYet))) q.told tt (kept-due parts found o.runs r.bytes h kept)) tt
-        (Causes.all-stay p p' r r' s o o k k q.faults counts refl refl) (same-le _ _ counts) refl refl
 
     -- a pass behind the survey is refused
     pub pass-refused : (A : Type 0) (found : Found) (e : ScanStop) → Counted (survey_failed {A = A} (Err e)) r.faults r'.faults → AreSurveyed parts found r.bytes → IfSome r.bytes (λ extract. Gathers parts extract found (Err e))

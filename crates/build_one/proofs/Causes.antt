@@ -6,7 +6,7 @@ use Rattle.tb_types.specs.declared.trouble.Whom.TheVariants.{Profile, Lane, Spoo
 use Rattle.tb_outside.specs.Source.{SourceSeen}
 use Rattle.tb_outside.specs.Spill.{SpillSeen}
 use Rattle.tb_outside.specs.Sink.{SinkSeen}
-use Rattle.build_one.specs.Objects.{Objects, Role, reading, spilling, writing, count_of, CountsStay, NoneFell, LeastRose, stands_before}
+use Rattle.tile_model.specs.Objects.{Objects, Role, reading, spilling, writing, count_of, CountsStay, NoneFell, LeastRose, stands_before}
 
 module _ (p p' r r' : SourceSeen) (s o o' : SpillSeen) (k k' : SinkSeen) where
   -- the objects of one lane, whose spill is left alone

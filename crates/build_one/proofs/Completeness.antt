@@ -1,13 +1,13 @@
 -- Where no count rose, a build's answer is what is due, or memory wants.
 use Rattle.std.proofs.Common.{◌≡◌, ◌⊎◌, inl, inr, Option, None, Some, IfSome, Result, Ok, Err, refl}
 use Rattle.tb_types.specs.declared.trouble.Whom.TheVariants as whom
-use Rattle.build_one.specs.declared.from.ProfileFrom.{ProfileFrom}
-use Rattle.build_one.specs.declared.stop.Stop.{Stop}
-use Rattle.build_one.specs.declared.stop.Stop.TheVariants as stops
-use Rattle.pmtiles_file.specs.declared.totals.Totals.{Totals}
+use Rattle.tile_model.specs.declared.from.ProfileFrom.{ProfileFrom}
+use Rattle.tile_model.specs.declared.stop.Stop.{Stop}
+use Rattle.tile_model.specs.declared.stop.Stop.TheVariants as stops
+use Rattle.pmtiles_dirs.specs.declared.totals.Totals.{Totals}
 use Rattle.tb_outside.specs.Spill.{Runs}
-use Rattle.build_one.specs.Objects.{Objects, NoneRose, reading, spilling, writing}
-use Rattle.build_one.specs.Due.{Due, due_in}
+use Rattle.tile_model.specs.Objects.{Objects, NoneRose, reading, spilling, writing}
+use Rattle.tile_model.specs.Due.{Due, due_in}
 use Rattle.build_one.specs.Answers.{IsDue, HasCause, Fits, BuildAnswers}
 
 abbrev Complete : Option Runs → Result Totals Stop → Due → Type 0

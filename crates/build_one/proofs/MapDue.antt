@@ -15,9 +15,9 @@ use Rattle.pmtiles_dirs.specs.declared.meta.Meta.{Meta}
 use Rattle.pmtiles_dirs.specs.Archive.{archive_text}
 use Rattle.pmtiles_dirs.specs.Back.{read_back}
 use Rattle.pmtiles_dirs.specs.Contents.{Tile, entries_of}
-use Rattle.pmtiles_file.specs.declared.totals.Totals.{Totals}
-use Rattle.pmtiles_file.specs.declared.totals.FinishErr.{FinishErr}
-use Rattle.pmtiles_file.specs.declared.totals.FinishErr.TheVariants as finish_errors
+use Rattle.pmtiles_dirs.specs.declared.totals.Totals.{Totals}
+use Rattle.pmtiles_file.specs.declared.finish_err.FinishErr.{FinishErr}
+use Rattle.pmtiles_file.specs.declared.finish_err.FinishErr.TheVariants as finish_errors
 use Rattle.pmtiles_file.specs.Finished.{FinishAnswers}
 use Rattle.pmtiles_file.specs.Finished as finished
 use Rattle.pmtiles_file.specs.Spool.{KeepsEnded}
@@ -27,17 +27,17 @@ use Rattle.tile_model.specs.Keys.{tile_of}
 use Rattle.tile_model.specs.Tiles.{built_tiles, built_items, emitted_items}
 use Rattle.tile_model.proofs.Proved as laws
 use Rattle.osm_elements.specs.declared.element.Block.{Block}
-use Rattle.build_one.specs.declared.stop.Stop.{Stop}
-use Rattle.build_one.specs.declared.stop.Stop.TheVariants as stops
+use Rattle.tile_model.specs.declared.stop.Stop.{Stop}
+use Rattle.tile_model.specs.declared.stop.Stop.TheVariants as stops
 use Rattle.build_one.specs.declared.stop.TileStop.{TileStop}
 use Rattle.build_one.specs.declared.stop.TileStop.TheVariants as tile_stops
 use Rattle.build_one.specs.Answers.{OnBuilt, IfTold}
 use Rattle.tile_model.specs.Bounds.{first_box}
 use Rattle.tile_model.specs.Extract.{features_of}
-use Rattle.build_one.specs.Due.{Due, Built, due_of_tiles, built_of}
+use Rattle.tile_model.specs.Due.{Due, Built, due_of_tiles, built_of}
 use Rattle.build_one.specs.Made.{IsDueBy, IsKnown, MapWritten}
 use Rattle.tile_model.specs.Map.{blocks_in, layer_names, tile_from, tiles_from, tiles_of, has_giant, meta_of}
-use Rattle.build_one.specs.Stops.{stop_of_tiles, stop_of_archive}
+use Rattle.build_one.specs.Stages.{stop_of_tiles, stop_of_archive}
 use Rattle.build_one.specs.Writing.{Ordered, HasGiant, MapAnswers, tiles_in}
 use Rattle.build_one.proofs.Backs.{few-built}
 use Rattle.tile_model.proofs.Ranges.{all-within}

@@ -3,7 +3,6 @@ use Rattle.std.proofs.Common.{◌≡◌, ℕ, List, [], ◌∷◌, ◌++◌, fla
 use Rattle.std.proofs.lemmas.List.{append-nil, map-append}
 use Rattle.std.proofs.lemmas.Grind.{flat_map-append}
 use Rattle.osm_elements.specs.declared.element.Block.{Block}
-use Rattle.osm_elements.specs.declared.element.WayEl.{WayEl}
 use Rattle.profile_rules.specs.declared.parts.Parts.{Parts}
 use Rattle.shard_store.specs.Join.{Entry}
 use Rattle.member_sets.specs.Ids.{entry_of, entries_of}
@@ -15,23 +14,23 @@ use Rattle.tile_model.specs.Features.{Feature}
 use Rattle.tile_model.specs.Items.{Gains}
 use Rattle.tile_model.specs.Points.{block_points, points_of}
 use Rattle.tile_model.specs.Tiles.{feature_items, emitted_items}
-use Rattle.tile_model.specs.Ways.{block_ways, way_features}
-use Rattle.pass_shapes.specs.Stores.{locate_in, located_in}
+use Rattle.tile_model.specs.Ways.{block_ways, ways_of}
+use Rattle.node_store.specs.declared.shaped.Shaped.{Shaped}
+use Rattle.pass_shapes.specs.Stores.{locate_in, is_needed, located_in, shaped_in}
 use Rattle.pass_shapes.proofs.Gaining.{gains-none, gains-both, gains-as}
-use Rattle.build_one.specs.Passes.{AreDrawn}
 
 -- a walk over blocks, with one behind them
 walk-last : {X : Type 0} (f : ℕ × Block → List X) (read : List (ℕ × Block)) (b : ℕ × Block) → flat_map f (read ++ b ∷ []) ≡ flat_map f read ++ f b
 walk-last f read b = flat_map-append f read (b ∷ []) ∙ ap (λ xs. flat_map f read ++ xs) (append-nil (f b))
 
 -- the needed nodes, as entries
-abbrev pub are-refs : Parts → List (Entry units.Unit) → List (ℕ × Block) → Type 0
-are-refs parts ids read = ids ≡ entries_of (all_refs parts read)
+abbrev pub are-refs : Parts → List (Entry units.Unit) → List (Entry units.Unit) → List (ℕ × Block) → Type 0
+are-refs parts ways ids read = ids ≡ entries_of (all_refs parts (is_needed ways) read)
 
-pub refs-next : (parts : Parts) (old new : List (Entry units.Unit)) (number : ℕ) (block : Block) → new ≡ old ++ entries_of (flat_map (needed_refs parts) block.ways) → (read : List (ℕ × Block)) → are-refs parts old read → are-refs parts new (read ++ (number, block) ∷ [])
-refs-next parts old new number block adds read h =
-    adds ∙ (ap (λ xs. xs ++ entries_of (flat_map (needed_refs parts) block.ways)) h
-    ∙ (sym (map-append entry_of (all_refs parts read) (flat_map (needed_refs parts) block.ways)) ∙ ap entries_of (sym (walk-last (λ (b : ℕ × Block). flat_map (needed_refs parts) b.1.ways) read (number, block)))))
+pub refs-next : (parts : Parts) (ways old new : List (Entry units.Unit)) (number : ℕ) (block : Block) → new ≡ old ++ entries_of (flat_map (needed_refs parts (is_needed ways)) block.ways) → (read : List (ℕ × Block)) → are-refs parts ways old read → are-refs parts ways new (read ++ (number, block) ∷ [])
+refs-next parts ways old new number block adds read h =
+    adds ∙ (ap (λ xs. xs ++ entries_of (flat_map (needed_refs parts (is_needed ways)) block.ways)) h
+    ∙ (sym (map-append entry_of (all_refs parts (is_needed ways) read) (flat_map (needed_refs parts (is_needed ways)) block.ways)) ∙ ap entries_of (sym (walk-last (λ (b : ℕ × Block). flat_map (needed_refs parts (is_needed ways)) b.1.ways) read (number, block)))))
 
 -- what is known of needed nodes, and the items of all nodes
 abbrev pub are-placed : Parts → List (Entry units.Unit) → List (Entry Located) × List RunItem → List (ℕ × Block) → Type 0
@@ -50,12 +49,17 @@ placed-next parts needed old new before after number block adds gains read h = (
   gains-as parts _ _ [] after (sym (items-last (block_points parts) read (number, block))) (gains-both parts _ _ [] before after h.1 gains),
 )
 
-pub drawn-none : (parts : Parts) (store : List (Entry Located)) (items : List RunItem) → AreDrawn parts store items items []
-drawn-none parts store items = gains-none parts items
+-- what is known of needed ways, and the items of all ways behind others
+abbrev pub are-drawn : Parts → List (Entry units.Unit) → List (Entry Located) → List RunItem → List (Entry Shaped) × List RunItem → List (ℕ × Block) → Type 0
+are-drawn parts ways store before both read = (both.0 ≡ flat_map (λ (b : ℕ × Block). shaped_in ways (locate_in store) b.0 b.1.ways) read) × Gains parts (emitted_items (ways_of parts (locate_in store) read)) before both.1
 
-pub drawn-next : (parts : Parts) (store : List (Entry Located)) (start before after : List RunItem) (number : ℕ) (block : Block) (ways : List WayEl) → ways ≡ block.ways
-    → Gains parts (emitted_items (flat_map (way_features parts (locate_in store) number) ways)) before after
-    → (read : List (ℕ × Block)) → AreDrawn parts store start before read → AreDrawn parts store start after (read ++ (number, block) ∷ [])
-drawn-next parts store start before after number block ways is gains read h =
-    gains-as parts _ _ start after (sym (items-last (block_ways parts (locate_in store)) read (number, block)))
-    (gains-both parts _ _ start before after h (subst (λ (ways : List WayEl). Gains parts (emitted_items (flat_map (way_features parts (locate_in store) number) ways)) before after) is gains))
+pub drawn-none : (parts : Parts) (ways : List (Entry units.Unit)) (store : List (Entry Located)) (entries : List (Entry Shaped)) (items : List RunItem) → entries ≡ [] → are-drawn parts ways store items (entries, items) []
+drawn-none parts ways store entries items e = (e, gains-none parts items)
+
+pub drawn-next : (parts : Parts) (ways : List (Entry units.Unit)) (store : List (Entry Located)) (start : List RunItem) (old new : List (Entry Shaped)) (before after : List RunItem) (number : ℕ) (block : Block)
+    → new ≡ old ++ shaped_in ways (locate_in store) number block.ways → Gains parts (emitted_items (block_ways parts (locate_in store) (number, block))) before after
+    → (read : List (ℕ × Block)) → are-drawn parts ways store start (old, before) read → are-drawn parts ways store start (new, after) (read ++ (number, block) ∷ [])
+drawn-next parts ways store start old new before after number block adds gains read h = (
+  adds ∙ (ap (λ xs. xs ++ shaped_in ways (locate_in store) number block.ways) h.0 ∙ sym (walk-last (λ (b : ℕ × Block). shaped_in ways (locate_in store) b.0 b.1.ways) read (number, block))),
+  gains-as parts _ _ start after (sym (items-last (block_ways parts (locate_in store)) read (number, block))) (gains-both parts _ _ start before after h.1 gains),
+)

@@ -49,9 +49,9 @@ pub record Surveying (parts : Parts) (blocks : List BlockAt) (old now : SourceSe
   pub faults : now.faults ≡ old.faults
   pub told : IfSome old.bytes (λ extract. Holds parts extract found (contents_at extract (take i blocks)))
   pub within : IfSome old.bytes (λ extract. LieWithin (length extract) found)
-  pub ready : IsReady found
+  pub ready : IsReady parts found
 
-pub surveying-start : (parts : Parts) (blocks : List BlockAt) (s : SourceSeen) (found : Found) → ((extract : List ℕ) → Holds parts extract found (Ok [])) → (found.nodes.items ≡ []) × (found.ways.items ≡ []) → IsReady found
+pub surveying-start : (parts : Parts) (blocks : List BlockAt) (s : SourceSeen) (found : Found) → ((extract : List ℕ) → Holds parts extract found (Ok [])) → (found.nodes.items ≡ []) × (found.ways.items ≡ []) → IsReady parts found
     → Surveying parts blocks s s 0 found
 surveying-start parts blocks s found h none ready = record {
   bytes = refl;
@@ -63,7 +63,7 @@ surveying-start parts blocks s found h none ready = record {
 }
 
 pub surveying-next : (parts : Parts) (blocks : List BlockAt) (old mid new : SourceSeen) (i : ℕ) (d : BlockAt) (before after : Found) → i < length blocks → IfSome old.bytes (λ extract. All (IsShort (length extract)) blocks) → Surveying parts blocks old mid i before
-    → IfSome mid.bytes (λ extract. Takes parts extract before after done (content_at extract (get_or blocks i d))) → Steps (get_or blocks i d) before after → new.bytes ≡ mid.bytes → new.faults ≡ mid.faults → IsReady after
+    → IfSome mid.bytes (λ extract. Takes parts extract before after done (content_at extract (get_or blocks i d))) → Steps (get_or blocks i d) before after → new.bytes ≡ mid.bytes → new.faults ≡ mid.faults → IsReady parts after
     → Surveying parts blocks old new (i + 1) after
 surveying-next parts blocks old mid new i d before after more short s takes steps bytes faults ready = record {
   bytes = bytes ∙ s.bytes;

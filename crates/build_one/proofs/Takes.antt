@@ -1,7 +1,6 @@
 -- What is held after a block, whatever was found before.
-use Rattle.std.proofs.Common.{◌≡◌, ℕ, Bool, true, false, cond, ◌||◌, Option, None, Some, IfSome, Result, Ok, Err, List, [], ◌∷◌, ◌++◌, filter, flat_map, slice_get, All, refl, sym, ap, subst, ◌∙◌, inl, inr}
+use Rattle.std.proofs.Common.{◌≡◌, ℕ, Bool, true, false, cond, Option, None, Some, IfSome, Result, Ok, Err, List, [], ◌∷◌, ◌++◌, filter, flat_map, slice_get, All, refl, sym, ap, subst, ◌∙◌, inl, inr}
 use Rattle.std.specs.Option.{option_or}
-use Rattle.std.specs.List.{list_any}
 use Rattle.std.proofs.lemmas.List.{append-nil}
 use Rattle.std.proofs.lemmas.List.Elements.{All-append, All-cons, All-nil, filter-append}
 use Rattle.std.proofs.lemmas.Grind.{flat_map-append}
@@ -16,8 +15,8 @@ use Rattle.osm_elements.specs.Header.{is_valid}
 use Rattle.profile_rules.specs.declared.parts.Parts.{Parts}
 use Rattle.tile_model.specs.Bounds.{boxes_in}
 use Rattle.tile_model.specs.Contents.{Content, header, elements, unread, header_in, block_in, content_of, in_block, content_at, contents_at, with_later, body_at, IsBody}
-use Rattle.tile_model.specs.Extract.{has_kept, is_kept}
 use Rattle.tile_model.specs.Map as maps
+use Rattle.pass_survey.specs.Kept.{kept_in, all_kept, IsSoundKept}
 use Rattle.build_one.specs.declared.found.Found.{Found}
 use Rattle.build_one.specs.Found.{Holds, joined, has_nodes, has_ways, with_if, Notes, Steps, IsReady, IsReadyBox, IsOfElements}
 use Rattle.build_one.proofs.Boxes.{some-written}
@@ -87,40 +86,17 @@ at-next extract has blocks b contents c true is all e =
     contents-next extract blocks b ∙ ((λ i. joined (all i) (is i)) ∙ ap Ok (sym (filter-next has contents c ∙ ap (λ m. with_if m (filter has contents) c) e)))
 at-next extract has blocks b contents c false is all e = all ∙ ap Ok (sym (filter-next has contents c ∙ ap (λ m. with_if m (filter has contents) c) e))
 
-any-append : {A : Type 0} (p : A → Bool) (xs ys : List A) → list_any p (xs ++ ys) ≡ (list_any p xs || list_any p ys)
-any-append p [] ys = refl
-any-append p (x ∷ xs) ys = ap (λ b. p x || b) (any-append p xs ys) ∙ go (p x)
-  where
-    go : (b : Bool) → (b || (list_any p xs || list_any p ys)) ≡ ((b || list_any p xs) || list_any p ys)
-    go true = refl
-    go false = refl
-
--- a kept relation stands in it
-abbrev kept_in : Parts → Content → Bool
-kept_in parts (header box) = false
-kept_in parts (elements number block) = list_any (is_kept parts) block.relations
-kept_in parts unread = false
-
-or-none : (b : Bool) → (b || false) ≡ b
-or-none true = refl
-or-none false = refl
-
-kept-alone : (parts : Parts) (c : Content) → has_kept parts (maps.block_in c) ≡ kept_in parts c
-kept-alone parts (header box) = refl
-kept-alone parts (elements number block) = or-none (list_any (is_kept parts) block.relations)
-kept-alone parts unread = refl
-
-kept-next : (parts : Parts) (contents : List Content) (c : Content) → has_kept parts (maps.blocks_in (contents ++ c ∷ [])) ≡ (has_kept parts (maps.blocks_in contents) || kept_in parts c)
+kept-next : (parts : Parts) (contents : List Content) (c : Content) → all_kept parts (maps.blocks_in (contents ++ c ∷ [])) ≡ all_kept parts (maps.blocks_in contents) ++ all_kept parts (maps.block_in c)
 kept-next parts contents c =
-    ap (has_kept parts) (flat_map-append maps.block_in contents (c ∷ []) ∙ ap (λ last. maps.blocks_in contents ++ last) (append-nil (maps.block_in c)))
-    ∙ (any-append _ (maps.blocks_in contents) (maps.block_in c) ∙ ap (λ b. has_kept parts (maps.blocks_in contents) || b) (kept-alone parts c))
+    ap (all_kept parts) (flat_map-append maps.block_in contents (c ∷ []) ∙ ap (λ last. maps.blocks_in contents ++ last) (append-nil (maps.block_in c)))
+    ∙ flat_map-append (λ (b : ℕ × Block). kept_in parts b.0 b.1.relations) (maps.blocks_in contents) (maps.block_in c)
 
 boxes-next : (contents : List Content) (c : Content) → flat_map boxes_in (contents ++ c ∷ []) ≡ flat_map boxes_in contents ++ boxes_in c
 boxes-next contents c = flat_map-append boxes_in contents (c ∷ []) ∙ ap (λ last. flat_map boxes_in contents ++ last) (append-nil (boxes_in c))
 
 -- what is found of a block more
 record More (parts : Parts) (b : BlockAt) (c : Content) (old new : Found) : Type 0 where
-  kept : new.kept ≡ (old.kept || kept_in parts c)
+  kept : new.kept.items ≡ old.kept.items ++ all_kept parts (maps.block_in c)
   nodes : new.nodes.items ≡ with_if (has_nodes c) old.nodes.items b
   ways : new.ways.items ≡ with_if (has_ways c) old.ways.items b
   box : (contents : List Content) → old.header_box ≡ slice_get (flat_map boxes_in contents) 0 → new.header_box ≡ slice_get (flat_map boxes_in contents ++ boxes_in c) 0
@@ -131,7 +107,7 @@ takes-content parts extract old new b c none still is more (Ok contents) h = sub
   still,
   record {
     box = more.box contents h.1.box ∙ ap (λ boxes. slice_get boxes 0) (sym (boxes-next contents c));
-    kept = more.kept ∙ (ap (λ k. k || kept_in parts c) h.1.kept ∙ sym (kept-next parts contents c));
+    kept = more.kept ∙ (ap (λ ks. ks ++ all_kept parts (maps.block_in c)) h.1.kept ∙ sym (kept-next parts contents c));
     nodes = ap (contents_at extract) more.nodes ∙ at-next extract has_nodes old.nodes.items b contents c (has_nodes c) is h.1.nodes refl;
     ways = ap (contents_at extract) more.ways ∙ at-next extract has_ways old.ways.items b contents c (has_ways c) is h.1.ways refl;
   },
@@ -151,7 +127,7 @@ pub takes-header : (parts : Parts) (extract : List ℕ) (old new : Found) (b : B
     → (so_far : Result (List Content) Damage) → Holds parts extract old so_far → Holds parts extract new (joined so_far (content_at extract b))
 takes-header parts extract old new b box none is at =
     takes-content parts extract old new b (header box) none (ap (λ (f : Found). f.damage) is ∙ none) at (record {
-      kept = ap (λ (f : Found). f.kept) is ∙ sym (or-none old.kept);
+      kept = ap (λ (f : Found). f.kept.items) is ∙ sym (append-nil old.kept.items);
       nodes = ap (λ (f : Found). f.nodes.items) is;
       ways = ap (λ (f : Found). f.ways.items) is;
       box = λ contents h. ap (λ (f : Found). f.header_box) is ∙ (ap (λ before. option_or before (Some box)) h ∙ first-next (flat_map boxes_in contents) box);
@@ -162,7 +138,7 @@ pub takes-elements : (parts : Parts) (extract : List ℕ) (old new : Found) (b :
     → (so_far : Result (List Content) Damage) → Holds parts extract old so_far → Holds parts extract new (joined so_far (content_at extract b))
 takes-elements parts extract old new b block none notes at =
     takes-content parts extract old new b (elements b.no block) none (notes.damage ∙ none) at (record {
-      kept = notes.kept;
+      kept = notes.kept ∙ ap (λ ks. old.kept.items ++ ks) (sym (append-nil (kept_in parts b.no block.relations)));
       nodes = notes.nodes;
       ways = notes.ways;
       box = λ contents h. box-same old new contents notes.box h;
@@ -172,7 +148,7 @@ takes-elements parts extract old new b block none notes at =
 pub takes-unread : (parts : Parts) (extract : List ℕ) (f : Found) (b : BlockAt) → f.damage ≡ None → b.kind ≡ kinds.Other
     → (so_far : Result (List Content) Damage) → Holds parts extract f so_far → Holds parts extract f (joined so_far (content_at extract b))
 takes-unread parts extract f b none kind =
-    takes-content parts extract f f b unread none none (unread-at extract b kind) (record { kept = sym (or-none f.kept); nodes = refl; ways = refl; box = λ contents h. box-same f f contents refl h })
+    takes-content parts extract f f b unread none none (unread-at extract b kind) (record { kept = sym (append-nil f.kept.items); nodes = refl; ways = refl; box = λ contents h. box-same f f contents refl h })
 
 -- at most this block comes behind others
 pub steps-none : (b : BlockAt) (old new : Found) → new.nodes.items ≡ old.nodes.items → new.ways.items ≡ old.ways.items → Steps b old new
@@ -186,10 +162,11 @@ all-if P true xs x h p = All-append P xs (x ∷ []) h (All-cons P x [] p (All-ni
 all-if P false xs x h p = h
 
 -- what is found stays ready
-pub ready-noted : (parts : Parts) (b : BlockAt) (block : Block) (old new : Found) → b.kind ≡ kinds.Elements → Notes parts b block old new → IsReady old → IsReady new
+pub ready-noted : (parts : Parts) (b : BlockAt) (block : Block) (old new : Found) → b.kind ≡ kinds.Elements → Notes parts b block old new → IsReady parts old → IsReady parts new
 ready-noted parts b block old new kind notes h = record {
   nodes = subst (All IsOfElements) (sym notes.nodes) (all-if IsOfElements _ old.nodes.items b h.nodes kind);
   ways = subst (All IsOfElements) (sym notes.ways) (all-if IsOfElements _ old.ways.items b h.ways kind);
+  kept = notes.sound h.kept;
   box = subst IsReadyBox (sym notes.box) h.box;
 }
 
@@ -197,5 +174,5 @@ ready-or : (old : Option (Option Bounds)) (box : Option Bounds) → IfSome box (
 ready-or None box valid h = some-written box valid
 ready-or (Some first) box valid h = h
 
-pub ready-box : (old new : Found) (box : Option Bounds) → new ≡ record old { header_box = option_or old.header_box (Some box) } → IfSome box (λ b. is_valid b ≡ true) → IsReady old → IsReady new
-ready-box old new box is valid h = subst IsReady (sym is) (record { nodes = h.nodes; ways = h.ways; box = ready-or old.header_box box valid h.box })
+pub ready-box : (parts : Parts) (old new : Found) (box : Option Bounds) → new ≡ record old { header_box = option_or old.header_box (Some box) } → IfSome box (λ b. is_valid b ≡ true) → IsReady parts old → IsReady parts new
+ready-box parts old new box is valid h = subst (IsReady parts) (sym is) (record { nodes = h.nodes; ways = h.ways; kept = h.kept; box = ready-or old.header_box box valid h.box })

@@ -4,16 +4,16 @@ use Rattle.tb_outside.specs.Sink.{SinkSeen, with_more, GrowsByPrefix}
 use Rattle.tb_outside.specs.Spill.{Runs}
 use Rattle.profile_rules.specs.declared.parts.Parts.{Parts}
 use Rattle.profile_rules.specs.Faults.{Fault}
-use Rattle.build_one.specs.declared.from.ProfileFrom.{ProfileFrom}
-use Rattle.build_one.specs.declared.stop.Stop.{Stop}
-use Rattle.build_one.specs.declared.stop.Stop.TheVariants as stops
+use Rattle.tile_model.specs.declared.from.ProfileFrom.{ProfileFrom}
+use Rattle.tile_model.specs.declared.stop.Stop.{Stop}
+use Rattle.tile_model.specs.declared.stop.Stop.TheVariants as stops
 use Rattle.pmtiles_dirs.specs.Back.{read_back}
-use Rattle.pmtiles_file.specs.declared.totals.Totals.{Totals}
+use Rattle.pmtiles_dirs.specs.declared.totals.Totals.{Totals}
 use Rattle.pmtiles_file.specs.Spool.{KeepsEnded}
-use Rattle.build_one.specs.Objects.{reading, spilling, writing, Objects, CountsStay, NoneRose, NoneFell, LeastRose}
-use Rattle.build_one.specs.Stops.{Cause, contents, count, memory, cause_of, IfContents, is_early, is_before_tiles}
-use Rattle.build_one.specs.Due.{Due, Built, due_in, parts_from}
-use Rattle.build_one.specs.Profiles.{IsAlone}
+use Rattle.tile_model.specs.Objects.{reading, spilling, writing, Objects, CountsStay, NoneRose, NoneFell, LeastRose}
+use Rattle.tile_model.specs.Stops.{Cause, contents, count, memory, cause_of, IfContents, is_early, is_before_tiles}
+use Rattle.tile_model.specs.Due.{Due, Built, due_in, parts_from}
+use Rattle.tile_model.specs.From.{IsAlone}
 
 -- an archive is due, and P holds of it
 abbrev pub OnBuilt : Due → (Built → Type 0) → Type 0

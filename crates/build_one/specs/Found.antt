@@ -1,6 +1,5 @@
 -- What the code has found of the blocks so far is what they hold.
-use Rattle.std.specs.Prelude.{◌≡◌, ℕ, Bool, true, false, ◌||◌, Option, None, Some, IfSome, Result, Ok, Err, OnOk, ⊤, List, [], ◌∷◌, ◌++◌, filter, flat_map, slice_get, All}
-use Rattle.std.specs.List.{list_any}
+use Rattle.std.specs.Prelude.{◌≡◌, ℕ, Bool, true, false, Option, None, Some, IfSome, Result, Ok, Err, OnOk, ⊤, List, [], ◌∷◌, ◌++◌, filter, flat_map, slice_get, All}
 use Rattle.tb_types.specs.declared.damage.Damage.{Damage}
 use Rattle.tb_types.specs.declared.location.Bounds.{Bounds}
 use Rattle.pbf_blobs.specs.declared.block.BlockAt.{BlockAt}
@@ -11,8 +10,8 @@ use Rattle.profile_rules.specs.declared.parts.Parts.{Parts}
 use Rattle.pmtiles_dirs.specs.Bounds.{CanBeWritten}
 use Rattle.tile_model.specs.Bounds.{boxes_in}
 use Rattle.tile_model.specs.Contents.{Content, header, elements, unread, contents_at}
-use Rattle.tile_model.specs.Extract.{has_kept, is_kept}
 use Rattle.tile_model.specs.Map.{blocks_in}
+use Rattle.pass_survey.specs.Kept.{kept_in, all_kept, IsSoundKept}
 use Rattle.build_one.specs.declared.found.Found.{Found}
 
 -- a block has nodes, or ways
@@ -26,10 +25,10 @@ has_ways (header box) = false
 has_ways (elements number block) = has_any block.ways
 has_ways unread = false
 
--- What is found of blocks that hold this: the box of the first header, whether a relation is kept, and which blocks have nodes and ways.
+-- What is found of blocks that hold this: the box of the first header, the kept relations, and which blocks have nodes and ways.
 pub record HasSurveyed (parts : Parts) (extract : List ℕ) (f : Found) (contents : List Content) : Type 0 where
   pub box : f.header_box ≡ slice_get (flat_map boxes_in contents) 0
-  pub kept : f.kept ≡ has_kept parts (blocks_in contents)
+  pub kept : f.kept.items ≡ all_kept parts (blocks_in contents)
   pub nodes : contents_at extract f.nodes.items ≡ Ok (filter has_nodes contents)
   pub ways : contents_at extract f.ways.items ≡ Ok (filter has_ways contents)
 
@@ -62,7 +61,8 @@ with_if true xs x = xs ++ x ∷ []
 pub record Notes (parts : Parts) (block : BlockAt) (content : Block) (old new : Found) : Type 0 where
   pub nodes : new.nodes.items ≡ with_if (has_any content.nodes) old.nodes.items block
   pub ways : new.ways.items ≡ with_if (has_any content.ways) old.ways.items block
-  pub kept : new.kept ≡ (old.kept || list_any (is_kept parts) content.relations)
+  pub kept : new.kept.items ≡ old.kept.items ++ kept_in parts block.no content.relations
+  pub sound : All (IsSoundKept parts) old.kept.items → All (IsSoundKept parts) new.kept.items
   pub box : new.header_box ≡ old.header_box
   pub damage : new.damage ≡ old.damage
 
@@ -80,8 +80,9 @@ IsReadyBox found = IfSome found (λ box. IfSome box CanBeWritten)
 abbrev pub IsOfElements : BlockAt → Type 0
 IsOfElements block = block.kind ≡ kinds.Elements
 
--- the blocks are such of elements, and the box is ready for an archive
-pub record IsReady (f : Found) : Type 0 where
+-- the blocks are such of elements, the specs are such that the rules can make, and the box is ready for an archive
+pub record IsReady (parts : Parts) (f : Found) : Type 0 where
   pub nodes : All IsOfElements f.nodes.items
   pub ways : All IsOfElements f.ways.items
+  pub kept : All (IsSoundKept parts) f.kept.items
   pub box : IsReadyBox f.header_box

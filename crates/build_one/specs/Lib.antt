@@ -1,10 +1,8 @@
 pub mod Answers
-pub mod Due
 pub mod Found
 pub mod Made
-pub mod Objects
 pub mod Profiles
-pub mod Stops
+pub mod Stages
 pub mod Survey
 pub mod Passes
 pub mod Worked

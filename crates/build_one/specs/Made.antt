@@ -6,17 +6,17 @@ use Rattle.tb_outside.specs.Spill.{SpillSeen}
 use Rattle.tb_outside.specs.Sink.{SinkSeen}
 use Rattle.profile_rules.specs.declared.parts.Parts.{Parts}
 use Rattle.sorted_lists.specs.Sorting.{KeysDiffer}
-use Rattle.pmtiles_file.specs.declared.totals.Totals.{Totals}
+use Rattle.pmtiles_dirs.specs.declared.totals.Totals.{Totals}
 use Rattle.pmtiles_file.specs.Spool.{KeepsEnded}
 use Rattle.tile_model.specs.Features.{name_of}
 use Rattle.std.specs.List.Sorted.{IsPermutation}
 use Rattle.tb_types.specs.declared.location.Bounds.{Bounds}
 use Rattle.mvt_codec.specs.declared.item.RunItem.{RunItem}
-use Rattle.build_one.specs.declared.stop.Stop.{Stop}
-use Rattle.build_one.specs.declared.stop.Stop.TheVariants as stops
+use Rattle.tile_model.specs.declared.stop.Stop.{Stop}
+use Rattle.tile_model.specs.declared.stop.Stop.TheVariants as stops
 use Rattle.build_one.specs.Answers.{IsDue, Writes, ReadsBack}
 use Rattle.tile_model.specs.Contents.{Content}
-use Rattle.build_one.specs.Due.{Due, due_of_tiles}
+use Rattle.tile_model.specs.Due.{Due, due_of_tiles}
 use Rattle.tile_model.specs.Bounds.{first_box}
 use Rattle.tile_model.specs.Extract.{features_of}
 use Rattle.tile_model.specs.Map.{blocks_in, meta_of, tiles_of}

@@ -9,9 +9,10 @@ use Rattle.osm_elements.specs.declared.element.Block.{Block}
 use Rattle.profile_rules.specs.declared.parts.Parts.{Parts}
 use Rattle.shard_store.specs.Join.{Entry, IsJoinOf}
 use Rattle.member_sets.specs.Ids.{entries_of}
+use Rattle.member_sets.specs.declared.kept.KeptRelation.{KeptRelation}
 use Rattle.member_sets.specs.declared.unit.Unit as units
 use Rattle.node_store.specs.declared.located.Located.{Located}
-use Rattle.node_store.specs.Order.{located_join}
+use Rattle.node_store.specs.Order.{located_join, shaped_join}
 use Rattle.mvt_codec.specs.declared.item.RunItem.{RunItem}
 use Rattle.tile_model.specs.Contents.{Content, elements, content_at, contents_at}
 use Rattle.tile_model.specs.Extract.{features_of, all_refs}
@@ -20,9 +21,11 @@ use Rattle.tile_model.specs.Map.{blocks_in}
 use Rattle.tile_model.specs.Points.{points_of}
 use Rattle.tile_model.specs.Tiles.{emitted_items}
 use Rattle.tile_model.specs.Ways.{ways_of}
-use Rattle.pass_shapes.specs.Stores.{locate_in, located_in}
+use Rattle.pass_survey.specs.Kept.{members_of}
+use Rattle.pass_shapes.specs.Stores.{locate_in, is_needed, located_in, shaped_in}
 use Rattle.build_one.specs.declared.found.Found.{Found}
 use Rattle.build_one.specs.declared.nodes.Placed.{Placed}
+use Rattle.build_one.specs.declared.ways.Drawn.{Drawn}
 use Rattle.build_one.specs.Found.{HasSurveyed}
 use Rattle.build_one.specs.Survey.{IsApart}
 
@@ -44,18 +47,23 @@ Reads P blocks told (Err (stops.Damage damage)) = IfSome told (λ extract. conte
 Reads P blocks told (Err stops.Failed) = Unit {0}
 Reads P blocks told (Err stops.Memory) = Unit {0}
 
--- a set of the nodes that the ways of blocks need
-abbrev pub AreNeeded : Parts → List (Entry units.Unit) → List (ℕ × Block) → Type 0
-AreNeeded parts needed blocks = (both : units.Unit → units.Unit → units.Unit) × IsJoinOf both (entries_of (all_refs parts blocks)) needed
+-- a set of the ways that kept relations need
+abbrev pub AreMembers : List KeptRelation → List (Entry units.Unit) → Type 0
+AreMembers kept ways = (both : units.Unit → units.Unit → units.Unit) × IsJoinOf both (entries_of (members_of kept)) ways
+
+-- a set of the nodes that the ways of blocks need, where these are the ways of relations
+abbrev pub AreNeeded : Parts → List (Entry units.Unit) → List (Entry units.Unit) → List (ℕ × Block) → Type 0
+AreNeeded parts ways needed blocks = (both : units.Unit → units.Unit → units.Unit) × IsJoinOf both (entries_of (all_refs parts (is_needed ways) blocks)) needed
 
 -- a store of the needed nodes among those of blocks, and the items of all of them
 pub record ArePlaced (parts : Parts) (needed : List (Entry units.Unit)) (placed : Placed) (blocks : List (ℕ × Block)) : Type 0 where
   pub store : IsJoinOf located_join (flat_map (λ b. located_in needed b.0 b.1.nodes) blocks) placed.locations
   pub items : Gains parts (emitted_items (points_of parts blocks)) [] placed.items.items
 
--- the items of the ways of blocks behind others
-abbrev pub AreDrawn : Parts → List (Entry Located) → List RunItem → List RunItem → List (ℕ × Block) → Type 0
-AreDrawn parts store before items blocks = Gains parts (emitted_items (ways_of parts (locate_in store) blocks)) before items
+-- a store of the needed ways among those of blocks, and the items of all of them behind others
+pub record AreDrawn (parts : Parts) (ways : List (Entry units.Unit)) (store : List (Entry Located)) (before : List RunItem) (drawn : Drawn) (blocks : List (ℕ × Block)) : Type 0 where
+  pub shapes : IsJoinOf shaped_join (flat_map (λ b. shaped_in ways (locate_in store) b.0 b.1.ways) blocks) drawn.shapes
+  pub items : Gains parts (emitted_items (ways_of parts (locate_in store) blocks)) before drawn.items.items
 
 -- the items of all features of what an extract holds, in any order; no damage comes where there is none
 abbrev pub Gathers : Parts → List ℕ → Found → Result (List RunItem) ScanStop → Type 0

@@ -1,23 +1,11 @@
--- What a build's profile is read from, and what that leaves of its source.
-use Rattle.std.specs.Prelude.{◌≡◌, ℕ, ◌<◌, Bool, true, false, Result, Ok, Err, List, Vec, length}
+-- What reading a profile answers.
+use Rattle.std.specs.Prelude.{◌≡◌, ℕ, Bool, true, false, Result, Ok, Err, List, Vec}
 use Rattle.std.specs.declared.alloc.Global.{Global}
 use Rattle.profile_rules.specs.declared.parts.Parts.{Parts}
 use Rattle.profile_rules.specs.Faults.{Fault}
 use Rattle.profile_rules.specs.Profile.{profile_of}
-use Rattle.build_one.specs.declared.from.ProfileFrom.{ProfileFrom}
-use Rattle.build_one.specs.declared.from.ProfileFrom.TheVariants as profiles
 use Rattle.build_one.specs.declared.stop.ProfileStop.{ProfileStop}
 use Rattle.build_one.specs.declared.stop.ProfileStop.TheVariants as stops
-
--- the key of a rule isn't empty
-abbrev pub IsKeyed : ProfileFrom → Type 0
-IsKeyed profiles.Read = Unit {0}
-IsKeyed (profiles.OneRule key) = 0 < length key
-
--- a key needs no source
-abbrev pub IsAlone : ProfileFrom → Type 0
-IsAlone profiles.Read = ⊥
-IsAlone (profiles.OneRule key) = Unit {0}
 
 -- it is the profile, or its first fault
 abbrev pub ReadsProfile : Result Parts ProfileStop → Result Parts Fault → Type 0

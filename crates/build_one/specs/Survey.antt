@@ -7,7 +7,7 @@ use Rattle.pbf_blobs.specs.declared.stop.ScanStop.TheVariants as stops
 use Rattle.profile_rules.specs.declared.parts.Parts.{Parts}
 use Rattle.sorted_lists.specs.Sorting.{KeysDiffer}
 use Rattle.tile_model.specs.Contents.{Content}
-use Rattle.tile_model.specs.Extract.{all_nodes, features_of}
+use Rattle.tile_model.specs.Extract.{all_nodes, all_ways, features_of}
 use Rattle.tile_model.specs.Features.{name_of}
 use Rattle.tile_model.specs.Map.{blocks_in}
 use Rattle.build_one.specs.declared.found.Found.{Found}
@@ -15,10 +15,11 @@ use Rattle.build_one.specs.declared.stop.LoadStop.{LoadStop}
 use Rattle.build_one.specs.declared.stop.LoadStop.TheVariants as loads
 use Rattle.build_one.specs.Found.{HasFound}
 
--- no two features have one name, and no two nodes one place
+-- no two features have one name, and no two nodes or ways one place
 pub record IsApart (parts : Parts) (contents : List Content) : Type 0 where
   pub names : KeysDiffer name_of (features_of parts (blocks_in contents))
   pub places : KeysDiffer (λ n. n.0) (all_nodes (blocks_in contents))
+  pub ways : KeysDiffer (λ w. w.0) (all_ways (blocks_in contents))
 
 abbrev pub AreApart : Parts → Result (List Content) Damage → Type 0
 AreApart parts (Ok contents) = IsApart parts contents

@@ -3,37 +3,39 @@ ghost use Rattle.tb_types.specs.Counts.{Counted};
 ghost use Rattle.profile_rules.specs.Sound.{IsSound};
 ghost use Rattle.pmtiles_dirs.specs.Bounds.{CanBeWritten};
 ghost use Rattle.tile_model.specs.Items.{AreSound};
-ghost use Rattle.build_one.specs.Due.{Due};
+ghost use Rattle.tile_model.specs.Due.{Due};
 ghost use Rattle.build_one.specs.Found.{IsReady};
 ghost use Rattle.build_one.specs.Made.{IsKnown, MapWritten};
 ghost use Rattle.build_one.specs.Answers.{BuildAnswers, BuildsAreComplete};
-ghost use Rattle.build_one.specs.Objects.{one_lane};
+ghost use Rattle.tile_model.specs.Objects.{one_lane};
 ghost use Rattle.build_one.specs.Passes.{Gathers, seen_items};
-ghost use Rattle.build_one.specs.Profiles.{IsKeyed, IsAlone};
+ghost use Rattle.tile_model.specs.From.{IsKeyed, IsAlone};
 ghost use Rattle.build_one.specs.Survey.{LieWithin, survey_failed};
 
 use crate::found::Found;
-use crate::from::ProfileFrom;
 use crate::map::meta_of;
 use crate::members::members;
 use crate::nodes::{Placed, nodes};
 use crate::profile::profile_from;
-use crate::stop::Stop;
+use crate::relations::relations;
+use crate::stop::{stop_of_archive, stop_of_profile, stop_of_survey, stop_of_tiles};
 use crate::survey::survey;
 use crate::tiles::write_tiles;
-use crate::ways::ways;
+use crate::ways::{Drawn, ways};
 use mvt_codec::RunItem;
+use pass_survey::needed_ways;
 use pbf_blobs::ScanStop;
 use pmtiles_file::Totals;
 use profile_rules::Profile;
 use std::alloc::Global;
 use tb_outside::{Lane, Sink, Source, Spill};
 use tb_types::{Bounds, Memory};
+use tile_model::{ProfileFrom, Stop};
 
 /// Builds the archive of the extract that the lane's reader has, by a profile, and appends it to the sink.
 ///
 /// `Profile` exactly where a told profile is refused, `Damage` exactly where a told extract is damaged, `NotYet` exactly where
-/// the profile makes something of a relation or a tile has 4 GiB or more, `Source` and `Spill` only where the count of the named
+/// a tile has 4 GiB or more, `Source` and `Spill` only where the count of the named
 /// object rose, `Sink` only where that of the archive's sink did. The profile is judged before the extract is touched, and the
 /// sink gets nothing before all tiles stand in the spool. The lane's spill is left alone.
 pub fn build<P: Source, R: Source, S: Spill, K: Sink>(
@@ -52,24 +54,22 @@ pub fn build<P: Source, R: Source, S: Spill, K: Sink>(
 {
     let profile = match profile_from(alloc, &from, profile) {
         Ok(profile) => profile,
-        Err(e) => return Err(Stop::from(e)),
+        Err(e) => return Err(stop_of_profile(e)),
     };
     let found = match survey(alloc, &profile, &mut lane.reader) {
         Ok(found) => found,
-        Err(e) => return Err(Stop::from(e)),
+        Err(e) => return Err(stop_of_survey(e)),
     };
-    if found.kept {
-        return Err(Stop::NotYet);
-    }
     let items = match gather(alloc, &profile, &mut lane.reader, &found) {
         Ok(items) => items,
-        Err(e) => return Err(Stop::from(e)),
+        Err(e) => return Err(stop_of_survey(e)),
     };
     let bounds = found.header_box.unwrap_or(None);
     write_map(alloc, &profile, items, bounds, spool, archive)
 }
 
-// The items of all features: the needed nodes are found, then they are located and the items of nodes made, then those of ways.
+// The items of all features: the needed ways and nodes are found, then nodes are located and their items made, then those of ways,
+// and of kept relations.
 fn gather<R: Source>(
     alloc: Global,
     profile: &Profile,
@@ -77,14 +77,18 @@ fn gather<R: Source>(
     found: &Found,
 ) -> Result<Vec<RunItem>, ScanStop>
     requires sound { IsSound profile.now }
-    requires ready { IsReady found.now }
+    requires ready { IsReady profile.now found.now }
     requires within { IfSome (R.seen reader.old).bytes (λ extract. LieWithin (length extract) found.now) }
     ensures told { IfSome (R.seen reader.old).bytes (λ extract. Gathers profile.now extract found.now (seen_items result)) }
     ensures sound { IfOk result (λ items. AreSound profile.now items.items) }
     ensures counts { Counted (survey_failed result) (R.seen reader.old).faults (R.seen reader.new).faults }
     ensures bytes { (R.seen reader.new).bytes ≡ (R.seen reader.old).bytes }
 {
-    let needed = match members(alloc, profile, reader, &found.ways) {
+    let member_ways = match needed_ways(alloc, &found.kept) {
+        Ok(ways) => ways,
+        Err(Memory) => return Err(ScanStop::Memory),
+    };
+    let needed = match members(alloc, profile, reader, &found.ways, &member_ways) {
         Ok(needed) => needed,
         Err(stop) => return Err(stop),
     };
@@ -92,7 +96,22 @@ fn gather<R: Source>(
         Ok(placed) => placed,
         Err(stop) => return Err(stop),
     };
-    ways(alloc, profile, reader, &found.ways, &locations, items)
+    let Drawn { shapes, items } = match ways(
+        alloc,
+        profile,
+        reader,
+        &found.ways,
+        &member_ways,
+        &locations,
+        items,
+    ) {
+        Ok(drawn) => drawn,
+        Err(stop) => return Err(stop),
+    };
+    match relations(alloc, profile, &found.kept, &shapes, items) {
+        Ok(items) => Ok(items),
+        Err(Memory) => Err(ScanStop::Memory),
+    }
 }
 
 // Writes the map of these items: its tiles, and then the archive.
@@ -116,11 +135,11 @@ fn write_map<S: Spill, K: Sink>(
     };
     let writer = match write_tiles(alloc, profile, meta, items, spool) {
         Ok(writer) => writer,
-        Err(e) => return Err(Stop::from(e)),
+        Err(e) => return Err(stop_of_tiles(e)),
     };
     match writer.finish(spool, archive) {
         Ok(totals) => Ok(totals),
-        Err(e) => Err(Stop::from(e)),
+        Err(e) => Err(stop_of_archive(e)),
     }
 }
 

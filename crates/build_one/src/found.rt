@@ -8,21 +8,22 @@ ghost use Rattle.tile_model.specs.Contents.{IsBody, content_at};
 ghost use Rattle.build_one.specs.Found.{Holds, Takes, IsReady, Notes, Steps};
 
 use crate::body::{block_in, header_in};
+use member_sets::KeptRelation;
 use osm_elements::{Block, BlockErr, kinds_of};
-use pass_survey::has_kept;
+use pass_survey::put_kept;
 use pbf_blobs::{BlockAt, BlockKind};
 use profile_rules::Profile;
 use std::alloc::Global;
 use tb_types::{Bounds, Damage, Memory};
 
-/// What was found so far of an extract: the blocks that have nodes and those that have ways, whether the profile makes
-/// something of a relation, the box of the first header, which may have none, and the damage of the first damaged block. Once
-/// there is damage, the rest doesn't count.
+/// What was found so far of an extract: the blocks that have nodes and those that have ways, the relations of which the profile
+/// makes something, the box of the first header, which may have none, and the damage of the first damaged block. Once there is
+/// damage, the rest doesn't count.
 #[derive(Drop)]
 pub struct Found {
     pub nodes: Vec<BlockAt>,
     pub ways: Vec<BlockAt>,
-    pub kept: bool,
+    pub kept: Vec<KeptRelation>,
     pub header_box: Option<Option<Bounds>>,
     pub damage: Option<Damage>,
 }
@@ -30,13 +31,13 @@ pub struct Found {
 impl Found {
     pub fn new(alloc: Global) -> Found
         ensures holds { (parts : Parts) (extract : List ℕ) → Holds parts extract result (Ok []) }
-        ensures ready { IsReady result }
+        ensures ready { (parts : Parts) → IsReady parts result }
         ensures none { (result.nodes.items ≡ []) × (result.ways.items ≡ []) }
     {
         Found {
             nodes: Vec::new(alloc),
             ways: Vec::new(alloc),
-            kept: false,
+            kept: Vec::new(alloc),
             header_box: None,
             damage: None,
         }
@@ -51,7 +52,7 @@ impl Found {
         body: &[u8],
     ) -> Result<(), Memory>
         ensures takes { (extract : List ℕ) → IsBody extract block body.now → Takes profile.now extract self.old self.new result (content_at extract block) }
-        ensures ready { IsReady self.old → OnOk result (IsReady self.new) }
+        ensures ready { IsReady profile.now self.old → OnOk result (IsReady profile.now self.new) }
         ensures steps { OnOk result (Steps block self.old self.new) }
     {
         if self.damage.is_some() {
@@ -69,7 +70,7 @@ impl Found {
         requires kind { block.kind ≡ kinds.Header }
         requires none { self.old.damage ≡ None }
         ensures takes { (parts : Parts) (extract : List ℕ) → IsBody extract block body.now → Takes parts extract self.old self.new result (content_at extract block) }
-        ensures ready { IsReady self.old → OnOk result (IsReady self.new) }
+        ensures ready { (parts : Parts) → IsReady parts self.old → OnOk result (IsReady parts self.new) }
         ensures steps { OnOk result (Steps block self.old self.new) }
     {
         match header_in(alloc, body) {
@@ -101,7 +102,7 @@ impl Found {
         requires kind { block.kind ≡ kinds.Elements }
         requires none { self.old.damage ≡ None }
         ensures takes { (extract : List ℕ) → IsBody extract block body.now → Takes profile.now extract self.old self.new result (content_at extract block) }
-        ensures ready { IsReady self.old → OnOk result (IsReady self.new) }
+        ensures ready { IsReady profile.now self.old → OnOk result (IsReady profile.now self.new) }
         ensures steps { OnOk result (Steps block self.old self.new) }
     {
         match block_in(alloc, body) {
@@ -127,10 +128,8 @@ impl Found {
         if kinds.ways {
             self.ways.push(block)?;
         }
-        if !self.kept {
-            self.kept = has_kept(alloc, profile, elements.relations.as_slice())?;
-        }
-        Ok(())
+        let relations = elements.relations.as_slice();
+        put_kept(&mut self.kept, alloc, profile, block.no, relations)
     }
 
     // Notes the damage of a block.

@@ -6,7 +6,7 @@ ghost use Rattle.build_one.specs.Passes.{AreNeeded, Reads};
 ghost use Rattle.build_one.specs.Survey.{survey_failed};
 
 use crate::load::load_block;
-use member_sets::{NeededNodes, Unit};
+use member_sets::{NeededNodes, NeededWays, Unit};
 use pass_survey::put_needed;
 use pbf_blobs::{BlockAt, ScanStop};
 use profile_rules::Profile;
@@ -15,16 +15,18 @@ use std::alloc::Global;
 use tb_outside::Source;
 use tb_types::{Memory, OsmId};
 
-/// The nodes that are needed: those of each way of which the profile makes something. Each of these blocks is loaded, once.
+/// The nodes that are needed: those of each way of which the profile makes something, and of each that a kept relation needs.
+/// Each of these blocks is loaded, once.
 pub fn members<R: Source>(
     alloc: Global,
     profile: &Profile,
     reader: &mut R,
     blocks: &[BlockAt],
+    ways: &NeededWays,
 ) -> Result<NeededNodes, ScanStop>
     requires within { IfSome (R.seen reader.old).bytes (λ extract. All (IsShort (length extract)) blocks.now) }
     requires kinds { All IsOfElements blocks.now }
-    ensures read { Reads (λ needed read. AreNeeded profile.now needed read) blocks.now (R.seen reader.old).bytes result }
+    ensures read { Reads (λ needed read. AreNeeded profile.now ways.now needed read) blocks.now (R.seen reader.old).bytes result }
     ensures counts { Counted (survey_failed result) (R.seen reader.old).faults (R.seen reader.new).faults }
     ensures bytes { (R.seen reader.new).bytes ≡ (R.seen reader.old).bytes }
 {
@@ -34,7 +36,7 @@ pub fn members<R: Source>(
             Ok(elements) => elements,
             Err(stop) => return Err(stop),
         };
-        match put_needed(&mut ids, alloc, profile, elements.ways.as_slice()) {
+        match put_needed(&mut ids, alloc, profile, ways, elements.ways.as_slice()) {
             Ok(()) => {}
             Err(Memory) => return Err(ScanStop::Memory),
         }

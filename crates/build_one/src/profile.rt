@@ -2,16 +2,17 @@ ghost use Rattle.std.specs.Prelude.{◌≡◌, ◌<◌, IfSome, length};
 ghost use Rattle.profile_rules.specs.Faults.{Gives};
 ghost use Rattle.profile_rules.specs.Profile.{profile_of};
 ghost use Rattle.tb_types.specs.Counts.{Counted};
-ghost use Rattle.build_one.specs.Due.{parts_from};
-ghost use Rattle.build_one.specs.Profiles.{IsKeyed, IsAlone, ReadsProfile, LoadsText, profile_failed};
+ghost use Rattle.tile_model.specs.Due.{parts_from};
+ghost use Rattle.build_one.specs.Profiles.{ReadsProfile, LoadsText, profile_failed};
+ghost use Rattle.tile_model.specs.From.{IsKeyed, IsAlone};
 
-use crate::from::ProfileFrom;
 use crate::stop::ProfileStop;
 use profile_rules::{
     LONGEST_PROFILE, Part, Profile, ProfileErr, ProfileWhy, Spot, one_rule, read_profile,
 };
 use std::alloc::Global;
 use tb_outside::Source;
+use tile_model::ProfileFrom;
 
 /// The profile of a build. A text is refused by its size before it is loaded.
 pub fn profile_from<P: Source>(

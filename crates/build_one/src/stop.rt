@@ -1,33 +1,15 @@
 ghost use Rattle.std.specs.Prelude.{◌≡◌};
-ghost use Rattle.build_one.specs.Stops.{stop_of_archive, stop_of_profile, stop_of_survey, stop_of_tiles};
+ghost use Rattle.build_one.specs.Stages.{stop_of_archive, stop_of_profile, stop_of_survey, stop_of_tiles};
 
 use pbf_blobs::ScanStop;
 use pmtiles_file::FinishErr;
 use profile_rules::{ProfileWhy, Spot};
 use std::alloc::{AllocError, AllocFailed};
-use tb_types::{Damage, Memory as NoMemory, Whom};
+use tb_types::{Memory as NoMemory, Whom};
+use tile_model::Stop;
 
 /// The reader that a build on one lane has.
 const READER: Whom = Whom::Lane(0);
-
-/// Why a build ends without an archive. Each has the values that tell of it.
-#[derive(Clone, Copy, Debug, PartialEq, Eq)]
-pub enum Stop {
-    /// The profile is refused: its first faulty part, and the first reason of that part.
-    Profile { spot: Spot, why: ProfileWhy },
-    /// The extract is damaged.
-    Damage(Damage),
-    /// A source failed: its count of faults rose.
-    Source(Whom),
-    /// A spill or the spool failed: its count of faults rose.
-    Spill(Whom),
-    /// The archive's sink failed: its count of faults rose.
-    Sink,
-    /// The profile makes something of a relation, or a tile has 4 GiB or more, which isn't built yet.
-    NotYet,
-    /// Want of memory.
-    Memory,
-}
 
 /// Why a profile isn't read.
 #[derive(Clone, Copy, Debug, PartialEq, Eq)]
@@ -60,51 +42,47 @@ pub enum TileStop {
     Memory,
 }
 
-impl From<ProfileStop> for Stop {
-    ghost from_gives = { λ e stop. stop ≡ stop_of_profile e };
-
-    fn from(e: ProfileStop) -> Stop {
-        match e {
-            ProfileStop::Bad { spot, why } => Stop::Profile { spot, why },
-            ProfileStop::Failed => Stop::Source(Whom::Profile),
-            ProfileStop::Memory => Stop::Memory,
-        }
+/// What a refused or unread profile is for the build.
+pub fn stop_of_profile(e: ProfileStop) -> Stop
+    ensures { result ≡ stop_of_profile e }
+{
+    match e {
+        ProfileStop::Bad { spot, why } => Stop::Profile { spot, why },
+        ProfileStop::Failed => Stop::Source(Whom::Profile),
+        ProfileStop::Memory => Stop::Memory,
     }
 }
 
-impl From<ScanStop> for Stop {
-    ghost from_gives = { λ e stop. stop ≡ stop_of_survey e };
-
-    fn from(e: ScanStop) -> Stop {
-        match e {
-            ScanStop::Damage(damage) => Stop::Damage(damage),
-            ScanStop::Failed => Stop::Source(READER),
-            ScanStop::Memory => Stop::Memory,
-        }
+/// What a refused extract or a failed reader is for the build.
+pub fn stop_of_survey(e: ScanStop) -> Stop
+    ensures { result ≡ stop_of_survey e }
+{
+    match e {
+        ScanStop::Damage(damage) => Stop::Damage(damage),
+        ScanStop::Failed => Stop::Source(READER),
+        ScanStop::Memory => Stop::Memory,
     }
 }
 
-impl From<TileStop> for Stop {
-    ghost from_gives = { λ e stop. stop ≡ stop_of_tiles e };
-
-    fn from(e: TileStop) -> Stop {
-        match e {
-            TileStop::TooLarge => Stop::NotYet,
-            TileStop::Failed => Stop::Spill(Whom::Spool),
-            TileStop::Memory => Stop::Memory,
-        }
+/// What refused tiles are for the build.
+pub fn stop_of_tiles(e: TileStop) -> Stop
+    ensures { result ≡ stop_of_tiles e }
+{
+    match e {
+        TileStop::TooLarge => Stop::NotYet,
+        TileStop::Failed => Stop::Spill(Whom::Spool),
+        TileStop::Memory => Stop::Memory,
     }
 }
 
-impl From<FinishErr> for Stop {
-    ghost from_gives = { λ e stop. stop ≡ stop_of_archive e };
-
-    fn from(e: FinishErr) -> Stop {
-        match e {
-            FinishErr::Memory => Stop::Memory,
-            FinishErr::Spill => Stop::Spill(Whom::Spool),
-            FinishErr::Sink => Stop::Sink,
-        }
+/// What an archive that isn't finished is for the build.
+pub fn stop_of_archive(e: FinishErr) -> Stop
+    ensures { result ≡ stop_of_archive e }
+{
+    match e {
+        FinishErr::Memory => Stop::Memory,
+        FinishErr::Spill => Stop::Spill(Whom::Spool),
+        FinishErr::Sink => Stop::Sink,
     }
 }
 

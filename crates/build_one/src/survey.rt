@@ -24,7 +24,7 @@ pub fn survey<R: Source>(
     ensures told { IfSome (R.seen reader.old).bytes (λ extract. Surveys profile.now extract result (contents_of extract)) }
     ensures counts { Counted (survey_failed result) (R.seen reader.old).faults (R.seen reader.new).faults }
     ensures bytes { (R.seen reader.new).bytes ≡ (R.seen reader.old).bytes }
-    ensures ready { IfOk result IsReady }
+    ensures ready { IfOk result (IsReady profile.now) }
 {
     match scan(alloc, reader) {
         Ok(index) => take_blocks(alloc, profile, reader, index.blocks.as_slice()),
@@ -44,7 +44,7 @@ fn take_blocks<R: Source>(
     ensures told { IfSome (R.seen reader.old).bytes (λ extract. Surveys profile.now extract result (contents_at extract blocks.now)) }
     ensures counts { Counted (survey_failed result) (R.seen reader.old).faults (R.seen reader.new).faults }
     ensures bytes { (R.seen reader.new).bytes ≡ (R.seen reader.old).bytes }
-    ensures ready { IfOk result IsReady }
+    ensures ready { IfOk result (IsReady profile.now) }
 {
     let mut found = Found::new(alloc);
     for block in blocks {
@@ -72,7 +72,7 @@ fn take_block<R: Source>(
     ensures told { IfSome (R.seen reader.old).bytes (λ extract. Takes profile.now extract found.old found.new result (content_at extract block)) }
     ensures counts { Counted (load_failed result) (R.seen reader.old).faults (R.seen reader.new).faults }
     ensures bytes { (R.seen reader.new).bytes ≡ (R.seen reader.old).bytes }
-    ensures ready { IsReady found.old → OnOk result (IsReady found.new) }
+    ensures ready { IsReady profile.now found.old → OnOk result (IsReady profile.now found.new) }
     ensures steps { OnOk result (Steps block found.old found.new) }
 {
     let body = match load_body(alloc, reader, block) {

@@ -4,6 +4,9 @@ pub mod PointItems
 pub mod Walks
 pub mod ZoomItems
 pub mod Drawable
+pub mod Latest
 pub mod Locating
-pub mod WayItems
+pub mod Shaping
+pub mod WayWalks
+pub mod SpecItems
 pub mod Features

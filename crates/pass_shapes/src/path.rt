@@ -1,11 +1,13 @@
 ghost use Rattle.std.specs.Prelude.{◌≡◌, IfOk};
 ghost use Rattle.pass_shapes.specs.Stores.{locate_in, seen_path};
 ghost use Rattle.ring_assembly.specs.Chains.{same_node};
+ghost use Rattle.tile_model.specs.Relations.{way_along};
 ghost use Rattle.tile_model.specs.Ways.{all_located, path_of, is_closed};
 
 use node_store::Locations;
+use ring_assembly::WayShape;
 use std::alloc::Global;
-use tb_types::{Memory, OsmId, World};
+use tb_types::{Memory, OsmId, Seq, World};
 
 /// The points of a way: it has at least 2 nodes, and all of them have locations.
 pub fn path_of(
@@ -19,6 +21,28 @@ pub fn path_of(
         return Ok(None);
     }
     located(alloc, locations, refs)
+}
+
+/// A way along these nodes, with its first and its last one, if it has a shape.
+#[tactic(auto, using(crate::proofs::WayWalks::along_are, crate::proofs::WayWalks::not_along))]
+pub fn way_along(
+    alloc: Global,
+    locations: &Locations,
+    refs: &[OsmId],
+) -> Result<Option<WayShape>, Memory>
+    ensures { IfOk result (λ way. way ≡ way_along (locate_in locations.now) refs.now) }
+{
+    if refs.len() < 2 {
+        return Ok(None);
+    }
+    match located(alloc, locations, refs)? {
+        Some(points) => Ok(Some(WayShape {
+            first: refs[0],
+            last: refs[refs.len() - 1],
+            points: Seq::from_vec(points),
+        })),
+        None => Ok(None),
+    }
 }
 
 // Where all these nodes are.

@@ -9,8 +9,8 @@ use Rattle.tb_outside.specs.Spill.{SpillSeen, Runs, ReadAnswers}
 use borrow.Rule.Slice.PartMut.{put_mid}
 use Rattle.std.proofs.lemmas.Slice.{take-put_mid}
 use Rattle.pmtiles_file.specs.declared.stored.Stored.{Stored}
-use Rattle.pmtiles_file.specs.declared.totals.FinishErr.{FinishErr}
-use Rattle.pmtiles_file.specs.declared.totals.FinishErr.TheVariants as finish_errors
+use Rattle.pmtiles_file.specs.declared.finish_err.FinishErr.{FinishErr}
+use Rattle.pmtiles_file.specs.declared.finish_err.FinishErr.TheVariants as finish_errors
 use Rattle.pmtiles_file.specs.Spool.{content_in, Stands, AllStand}
 use Rattle.pmtiles_file.specs.Distinct.{StandIn}
 use Rattle.pmtiles_file.specs.Finished.{FinishCounts, IsNotMemory, Passes, StepAnswers, PutAnswers, RoomAnswers, PartAnswers, all_contents}

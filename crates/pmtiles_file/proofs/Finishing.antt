@@ -15,9 +15,9 @@ use Rattle.pmtiles_dirs.specs.Archive.{map_header, sizes_of, length_of, text_of_
 use Rattle.pmtiles_dirs.specs.Back.{read_back}
 use Rattle.pmtiles_dirs.proofs.Sections.{header-length}
 use Rattle.pmtiles_dirs.proofs.ReadBack.{archives_are_read_back}
-use Rattle.pmtiles_file.specs.declared.totals.FinishErr.{FinishErr}
-use Rattle.pmtiles_file.specs.declared.totals.FinishErr.TheVariants as finish_errors
-use Rattle.pmtiles_file.specs.declared.totals.Totals.{Totals}
+use Rattle.pmtiles_file.specs.declared.finish_err.FinishErr.{FinishErr}
+use Rattle.pmtiles_file.specs.declared.finish_err.FinishErr.TheVariants as finish_errors
+use Rattle.pmtiles_dirs.specs.declared.totals.Totals.{Totals}
 use Rattle.pmtiles_file.specs.Spool.{content_in}
 use Rattle.pmtiles_file.specs.Writing.{WriterSeen, Wrote}
 use Rattle.pmtiles_file.specs.Finished.{Writes, FinishCounts, totals_of, FinishAnswers, IsNotMemory, StepAnswers, all_contents, sizes_in, parts_text, totals_in, PutAnswers}

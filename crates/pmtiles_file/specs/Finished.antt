@@ -12,9 +12,9 @@ use Rattle.pmtiles_dirs.specs.Leaves.{plan_of}
 use Rattle.pmtiles_dirs.specs.Archive.{archive_text, map_header, length_of}
 use Rattle.pmtiles_dirs.specs.Back.{read_back}
 use Rattle.pmtiles_file.specs.declared.stored.Stored.{Stored}
-use Rattle.pmtiles_file.specs.declared.totals.FinishErr.{FinishErr}
-use Rattle.pmtiles_file.specs.declared.totals.FinishErr.TheVariants as finish_errors
-use Rattle.pmtiles_file.specs.declared.totals.Totals.{Totals}
+use Rattle.pmtiles_file.specs.declared.finish_err.FinishErr.{FinishErr}
+use Rattle.pmtiles_file.specs.declared.finish_err.FinishErr.TheVariants as finish_errors
+use Rattle.pmtiles_dirs.specs.declared.totals.Totals.{Totals}
 use Rattle.pmtiles_file.specs.Spool.{content_in}
 use Rattle.pmtiles_file.specs.Writing.{WriterSeen, Wrote}
 

@@ -1,6 +1,6 @@
 ghost use Rattle.pmtiles_file.specs.Finished.{PutAnswers};
 
-use crate::totals::FinishErr;
+use crate::finish_err::FinishErr;
 use tb_outside::Sink;
 
 /// Appends a piece to a sink.

@@ -4,8 +4,8 @@ ghost use Rattle.pmtiles_file.specs.Distinct.{StandIn};
 ghost use Rattle.pmtiles_file.specs.Finished.{StepAnswers, PartAnswers, RoomAnswers, all_contents};
 
 use crate::append::append;
+use crate::finish_err::FinishErr;
 use crate::stored::Stored;
-use crate::totals::FinishErr;
 use tb_outside::{Sink, Spill};
 
 /// Appends all contents from the spool to the sink, one behind another. They are gathered in the buffer before they are

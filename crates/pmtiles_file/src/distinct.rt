@@ -3,12 +3,12 @@ ghost use Rattle.pmtiles_file.specs.Distinct.{PlaceAnswers, PutAnswers, StandIn}
 ghost use Rattle.pmtiles_file.specs.Finished.{StepAnswers, all_contents};
 
 use crate::copy::copy_all;
+use crate::finish_err::FinishErr;
 use crate::hash::hash_of;
 use crate::index::HashIndex;
 use crate::search::find;
 use crate::store::store;
 use crate::stored::Stored;
-use crate::totals::FinishErr;
 use std::alloc::Global;
 use std::marker::Model;
 use tb_outside::{Sink, Spill, SpillErr};

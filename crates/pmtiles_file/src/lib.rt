@@ -8,6 +8,7 @@
 mod append;
 mod copy;
 mod distinct;
+mod finish_err;
 mod hash;
 mod index;
 mod laws;
@@ -16,13 +17,12 @@ mod parts;
 mod search;
 mod store;
 mod stored;
-mod totals;
 mod writer;
 
+pub use finish_err::FinishErr;
 pub use laws::runs_behind_change_nothing;
-pub use pmtiles_dirs::{Meta, MetaLayer};
+pub use pmtiles_dirs::{Meta, MetaLayer, Totals};
 pub use tb_types::FieldKind;
-pub use totals::{FinishErr, Totals};
 pub use writer::Writer;
 
 #[cfg(test)]

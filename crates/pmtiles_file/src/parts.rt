@@ -5,9 +5,11 @@ ghost use Rattle.pmtiles_file.specs.Finished.{PutAnswers, parts_text, totals_in}
 
 use crate::append::append;
 use crate::distinct::Distinct;
+use crate::finish_err::FinishErr;
 use crate::listed::Listed;
-use crate::totals::{FinishErr, Totals};
-use pmtiles_dirs::{HEADER_LEN, Meta, Sizes, map_header, metadata_text, plan_leaves, put_header};
+use pmtiles_dirs::{
+    HEADER_LEN, Meta, Sizes, Totals, map_header, metadata_text, plan_leaves, put_header,
+};
 use std::alloc::Global;
 use tb_outside::Sink;
 use tb_types::{Memory, Seq};

@@ -5,10 +5,10 @@ ghost use Rattle.pmtiles_file.specs.Writing.{next_id, RunsStand, Wrote, AddAnswe
 ghost use Rattle.pmtiles_file.specs.Finished.{FinishAnswers};
 
 use crate::distinct::Distinct;
+use crate::finish_err::FinishErr;
 use crate::listed::Listed;
 use crate::parts::{append_parts, prepare};
-use crate::totals::{FinishErr, Totals};
-use pmtiles_dirs::Meta;
+use pmtiles_dirs::{Meta, Totals};
 use std::alloc::Global;
 use std::marker::Model;
 use tb_outside::{Sink, Spill, SpillErr};

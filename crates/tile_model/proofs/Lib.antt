@@ -9,6 +9,7 @@ pub mod KeySorts
 pub mod Built
 pub mod PointFeatures
 pub mod Names
+pub mod Numbering
 pub mod WorkedCases
 pub mod Proved
 pub mod Ranges

@@ -1,18 +1,17 @@
--- No two features of an extract have one name: kinds tell nodes from ways, and places and rules those of one kind.
-use Rattle.std.proofs.Common.{◌≡◌, ◌≢◌, ℕ, suc, ◌+◌, ◌<◌, Option, None, Some, IfSome, List, [], ◌∷◌, map, filter, flat_map, filter_map, option_map, All, refl, sym, ap, ◌∙◌, arith}
+-- No two features of an extract have one name: kinds tell nodes, ways and relations apart, and places and rules those of one kind.
+use Rattle.std.proofs.Common.{◌≡◌, ◌≢◌, ℕ, ◌+◌, ◌<◌, Option, None, Some, IfSome, List, [], ◌∷◌, ◌++◌, map, filter, flat_map, filter_map, option_map, All, refl, sym, ap, ◌∙◌, arith}
 use Rattle.std.proofs.lemmas.List.Elements.{recursion_from_All}
 use Rattle.std.specs.List.{AllByRecursion, cons_option, enumerate_from}
 use Rattle.tb_types.specs.declared.attribute.Tags.{Tags}
 use Rattle.tb_types.specs.declared.element.Kind.{Kind}
 use Rattle.tb_types.specs.declared.element.Kind.TheVariants as kinds
 use Rattle.tb_types.specs.declared.element.OsmId.{OsmId}
-use Rattle.tb_types.specs.declared.element.Place.{Place}
 use Rattle.tb_types.specs.declared.location.World.{World}
 use Rattle.osm_elements.specs.declared.element.NodeEl.{NodeEl}
 use Rattle.osm_elements.specs.declared.element.WayEl.{WayEl}
+use Rattle.osm_elements.specs.declared.element.RelEl.{RelEl}
 use Rattle.osm_elements.specs.declared.element.Block.{Block}
-use Rattle.osm_elements.specs.Elements.{Element, node, way, relation}
-use Rattle.osm_elements.specs.Block.{as_node, as_way, numbered, block_in}
+use Rattle.profile_rules.specs.declared.parts.Form.{Form}
 use Rattle.profile_rules.specs.declared.parts.Parts.{Parts}
 use Rattle.profile_rules.specs.declared.parts.Rule.{Rule}
 use Rattle.profile_rules.specs.declared.spec.Spec.{Spec}
@@ -21,12 +20,15 @@ use Rattle.sorted_lists.specs.Sorting.{KeysDiffer}
 use Rattle.sorted_lists.proofs.Orders.{each_weaker, each_append, Pairs, pairs_weaker, pairs_from_AllPairs, AllPairs_from_pairs}
 use Rattle.sorted_lists.proofs.Only.{pairs_filter}
 use Rattle.sorted_lists.proofs.Told.{pairs_append}
-use Rattle.tile_model.specs.Extract.{all_nodes, features_of, location_of, placed_nodes}
+use Rattle.ring_assembly.specs.declared.way.WayShape.{WayShape}
+use Rattle.tile_model.specs.Extract.{features_of, location_of, shape_of}
 use Rattle.tile_model.specs.ExtractLaws.{AreNumbered}
 use Rattle.tile_model.specs.Features.{Feature, Name, name_of}
 use Rattle.tile_model.specs.Points.{point_of, point_feature, if_placed, node_features, points_of}
-use Rattle.tile_model.specs.Rows.{shape_feature}
-use Rattle.tile_model.specs.Ways.{way_shape, way_origin, way_feature, way_features, ways_of}
+use Rattle.tile_model.specs.Relations.{way_ids, relation_shape, relation_origin, relation_features, relations_of}
+use Rattle.tile_model.specs.Rows.{shape_feature, form_feature}
+use Rattle.tile_model.specs.Ways.{way_shape, way_origin, way_features, ways_of}
+use Rattle.tile_model.specs.declared.world.Origin.{Origin}
 use Rattle.tile_model.specs.declared.world.WorldShape.{WorldShape}
 use Rattle.tile_model.proofs.Lists.{pairs_map}
 
@@ -160,103 +162,80 @@ module _ (parts : Parts) (block : ℕ) (n : NodeEl) where
       pairs_map Differ (point_feature parts block n w) (specs_of parts n.tags kinds.Node)
       (pairs_weaker (λ (s t : Spec). s.rule ≢ t.rule) (λ s t. Differ (point_feature parts block n w s) (point_feature parts block n w t)) (λ s t h e. h (ap (λ (m : Name). m.2) e)) (specs_of parts n.tags kinds.Node) (specs-differ parts n.tags kinds.Node))
 
--- the features of a way
-module _ (parts : Parts) (locate : OsmId → Option World) (block : ℕ) (w : WayEl) where
+-- the features of an element that has a shape in some forms
+module _ (parts : Parts) (origin : Origin) (shape_in : Form → Option WorldShape) where
   abbrev made : Spec → WorldShape → Feature
-  made spec shape = shape_feature parts (way_origin block w) shape spec
+  made spec shape = shape_feature parts origin shape spec
 
-  each-way : (specs : List Spec) → AllByRecursion (λ s. IfSome (way_feature parts locate block w s) (IsOf kinds.Way block w.index)) specs
-  each-way [] = tt
-  each-way (s ∷ specs) = (on-shape (made s) (way_shape locate w.refs s.form) (IsOf kinds.Way block w.index) (λ shape. record { kind_is = refl; block_is = refl; index_is = refl }), each-way specs)
+  abbrev Own : Feature → Type 0
+  Own = IsOf origin.kind origin.place.block origin.place.index
 
-  pub way-own : AllByRecursion (IsOf kinds.Way block w.index) (way_features parts locate block w)
-  way-own = each-chosen (IsOf kinds.Way block w.index) (way_feature parts locate block w) (specs_of parts w.tags kinds.Way) (each-way (specs_of parts w.tags kinds.Way))
+  each-own : (specs : List Spec) → AllByRecursion (λ s. IfSome (form_feature parts origin shape_in s) Own) specs
+  each-own [] = tt
+  each-own (s ∷ specs) = (on-shape (made s) (shape_in s.form) Own (λ shape. record { kind_is = refl; block_is = refl; index_is = refl }), each-own specs)
 
-  two-apart : (s t : Spec) → s.rule ≢ t.rule → IfSome (way_feature parts locate block w s) (λ f. IfSome (way_feature parts locate block w t) (Differ f))
+  pub shape-own : (specs : List Spec) → AllByRecursion Own (filter_map (form_feature parts origin shape_in) specs)
+  shape-own specs = each-chosen Own (form_feature parts origin shape_in) specs (each-own specs)
+
+  two-apart : (s t : Spec) → s.rule ≢ t.rule → IfSome (form_feature parts origin shape_in s) (λ f. IfSome (form_feature parts origin shape_in t) (Differ f))
   two-apart s t h =
-      on-shape (made s) (way_shape locate w.refs s.form) (λ f. IfSome (way_feature parts locate block w t) (Differ f))
-      (λ shape. on-shape (made t) (way_shape locate w.refs t.form) (Differ (made s shape)) (λ other e. h (ap (λ (m : Name). m.2) e)))
+      on-shape (made s) (shape_in s.form) (λ f. IfSome (form_feature parts origin shape_in t) (Differ f))
+      (λ shape. on-shape (made t) (shape_in t.form) (Differ (made s shape)) (λ other e. h (ap (λ (m : Name). m.2) e)))
 
-  pub way-apart : Pairs Differ (way_features parts locate block w)
-  way-apart =
-      pairs-chosen Differ (way_feature parts locate block w) (specs_of parts w.tags kinds.Way)
-      (pairs_weaker (λ (s t : Spec). s.rule ≢ t.rule) (λ s t. IfSome (way_feature parts locate block w s) (λ f. IfSome (way_feature parts locate block w t) (Differ f))) two-apart (specs_of parts w.tags kinds.Way) (specs-differ parts w.tags kinds.Way))
+  pub shape-apart : (specs : List Spec) → Pairs (λ (s t : Spec). s.rule ≢ t.rule) specs → Pairs Differ (filter_map (form_feature parts origin shape_in) specs)
+  shape-apart specs h =
+      pairs-chosen Differ (form_feature parts origin shape_in) specs
+      (pairs_weaker (λ (s t : Spec). s.rule ≢ t.rule) (λ s t. IfSome (form_feature parts origin shape_in s) (λ f. IfSome (form_feature parts origin shape_in t) (Differ f))) two-apart specs h)
 
-node-not-way : kinds.Node ≢ kinds.Way
-node-not-way e = absurd cc
+-- the features of a way, and of a relation
+way-own : (parts : Parts) (locate : OsmId → Option World) (block : ℕ) (w : WayEl) → AllByRecursion (IsOf kinds.Way block w.index) (way_features parts locate block w)
+way-own parts locate block w = shape-own parts (way_origin block w) (way_shape locate w.refs) (specs_of parts w.tags kinds.Way)
 
-kinds-apart : (f g : Feature) → f.kind ≡ kinds.Node → g.kind ≡ kinds.Way → Differ f g
-kinds-apart f g h k e = node-not-way (sym h ∙ (ap (λ (m : Name). m.0) e ∙ k))
+way-apart : (parts : Parts) (locate : OsmId → Option World) (block : ℕ) (w : WayEl) → Pairs Differ (way_features parts locate block w)
+way-apart parts locate block w = shape-apart parts (way_origin block w) (way_shape locate w.refs) (specs_of parts w.tags kinds.Way) (specs-differ parts w.tags kinds.Way)
 
-across : (fs gs : List Feature) → AllByRecursion (λ (f : Feature). f.kind ≡ kinds.Node) fs → AllByRecursion (λ (g : Feature). g.kind ≡ kinds.Way) gs → AllByRecursion (λ f. AllByRecursion (Differ f) gs) fs
-across [] gs h k = tt
-across (f ∷ fs) gs h k = (each_weaker (λ (g : Feature). g.kind ≡ kinds.Way) (Differ f) (λ g e. kinds-apart f g h.0 e) gs k, across fs gs h.1 k)
+relation-own : (parts : Parts) (shape_at : OsmId → Option WayShape) (block : ℕ) (r : RelEl) → AllByRecursion (IsOf kinds.Relation block r.index) (relation_features parts shape_at block r)
+relation-own parts shape_at block r = shape-own parts (relation_origin block r) (relation_shape shape_at (way_ids r.members)) (specs_of parts r.tags kinds.Relation)
+
+relation-apart : (parts : Parts) (shape_at : OsmId → Option WayShape) (block : ℕ) (r : RelEl) → Pairs Differ (relation_features parts shape_at block r)
+relation-apart parts shape_at block r = shape-apart parts (relation_origin block r) (relation_shape shape_at (way_ids r.members)) (specs_of parts r.tags kinds.Relation) (specs-differ parts r.tags kinds.Relation)
+
+-- features of different kinds have different names
+module _ (one other : Kind) (apart : one ≢ other) where
+  kinds-apart : (f g : Feature) → f.kind ≡ one → g.kind ≡ other → Differ f g
+  kinds-apart f g h k e = apart (sym h ∙ (ap (λ (m : Name). m.0) e ∙ k))
+
+  across : (fs gs : List Feature) → AllByRecursion (λ (f : Feature). f.kind ≡ one) fs → AllByRecursion (λ (g : Feature). g.kind ≡ other) gs → AllByRecursion (λ f. AllByRecursion (Differ f) gs) fs
+  across [] gs h k = tt
+  across (f ∷ fs) gs h k = (each_weaker (λ (g : Feature). g.kind ≡ other) (Differ f) (λ g e. kinds-apart f g h.0 e) gs k, across fs gs h.1 k)
+
+-- what is told of each of one list against a second, and against a third, is told of it against both
+across-both : (fs gs hs : List Feature) → AllByRecursion (λ f. AllByRecursion (Differ f) gs) fs → AllByRecursion (λ f. AllByRecursion (Differ f) hs) fs → AllByRecursion (λ f. AllByRecursion (Differ f) (gs ++ hs)) fs
+across-both [] gs hs h k = tt
+across-both (f ∷ fs) gs hs h k = (each_append (Differ f) gs hs h.0 k.0, across-both fs gs hs h.1 k.1)
 
 pub names-differ : (parts : Parts) (bs : List (ℕ × Block)) → KeysDiffer (λ b. b.0) bs → All (λ b. AreNumbered b.1) bs → KeysDiffer name_of (features_of parts bs)
 names-differ parts bs differ h =
     let locate = location_of bs in
+    let shape_at = shape_of bs in
+    let points = points_of parts bs in
+    let ways = ways_of parts locate bs in
+    let relations = relations_of parts shape_at bs in
     let apart = pairs_from_AllPairs (λ (a b : ℕ × Block). a.0 ≢ b.0) bs differ in
     let each = recursion_from_All (λ (b : ℕ × Block). AreNumbered b.1) bs h in
     let node-own : (block : ℕ) (n : NodeEl) → AllByRecursion (IsOf kinds.Node block n.index) (node_features parts block n) = λ block n. node-if parts block n (point_of n) in
     let node-apart : (block : ℕ) (n : NodeEl) → Pairs Differ (node_features parts block n) = λ block n. apart-if parts block n (point_of n) in
+    let of-nodes = all-kinds kinds.Node (λ (n : NodeEl). n.index) (λ b. b.nodes) (node_features parts) node-own node-apart bs in
+    let of-ways = all-kinds kinds.Way (λ (w : WayEl). w.index) (λ b. b.ways) (way_features parts locate) (way-own parts locate) (way-apart parts locate) bs in
+    let of-relations = all-kinds kinds.Relation (λ (r : RelEl). r.index) (λ b. b.relations) (relation_features parts shape_at) (relation-own parts shape_at) (relation-apart parts shape_at) bs in
     AllPairs_from_pairs Differ (features_of parts bs)
-    (pairs_append Differ (points_of parts bs) (ways_of parts locate bs)
+    (pairs_append Differ points (ways ++ relations)
     (kind-apart kinds.Node (λ (n : NodeEl). n.index) (λ b. b.nodes) (node_features parts) node-own node-apart bs apart
     (each_weaker (λ (b : ℕ × Block). AreNumbered b.1) _ (λ b k. pairs_from_AllPairs (λ (m n : NodeEl). m.index ≢ n.index) b.1.nodes k.nodes) bs each))
+    (pairs_append Differ ways relations
     (kind-apart kinds.Way (λ (w : WayEl). w.index) (λ b. b.ways) (way_features parts locate) (way-own parts locate) (way-apart parts locate) bs apart
     (each_weaker (λ (b : ℕ × Block). AreNumbered b.1) _ (λ b k. pairs_from_AllPairs (λ (m n : WayEl). m.index ≢ n.index) b.1.ways k.ways) bs each))
-    (across (points_of parts bs) (ways_of parts locate bs)
-    (all-kinds kinds.Node (λ (n : NodeEl). n.index) (λ b. b.nodes) (node_features parts) node-own node-apart bs)
-    (all-kinds kinds.Way (λ (w : WayEl). w.index) (λ b. b.ways) (way_features parts locate) (way-own parts locate) (way-apart parts locate) bs)))
-
--- the elements of one kind in a block have numbers that rise
-nodes-above : (m n : ℕ) (elements : List Element) → m < n → AllByRecursion (λ (u : NodeEl). m < u.index) (numbered as_node n elements)
-nodes-above m n [] h = tt
-nodes-above m n (node id at tags ∷ later) h = (h, nodes-above m (suc n) later (omega (arith, h)))
-nodes-above m n (way id tags refs ∷ later) h = nodes-above m (suc n) later (omega (arith, h))
-nodes-above m n (relation id tags members ∷ later) h = nodes-above m (suc n) later (omega (arith, h))
-
-nodes-rise : (n : ℕ) (elements : List Element) → Pairs (λ (u v : NodeEl). u.index ≢ v.index) (numbered as_node n elements)
-nodes-rise n [] = tt
-nodes-rise n (node id at tags ∷ later) = (each_weaker (λ (v : NodeEl). n < v.index) (λ (v : NodeEl). n ≢ v.index) (λ v h e. omega (arith, h, e)) (numbered as_node (suc n) later) (nodes-above n (suc n) later (omega arith)), nodes-rise (suc n) later)
-nodes-rise n (way id tags refs ∷ later) = nodes-rise (suc n) later
-nodes-rise n (relation id tags members ∷ later) = nodes-rise (suc n) later
-
-ways-above : (m n : ℕ) (elements : List Element) → m < n → AllByRecursion (λ (u : WayEl). m < u.index) (numbered as_way n elements)
-ways-above m n [] h = tt
-ways-above m n (way id tags refs ∷ later) h = (h, ways-above m (suc n) later (omega (arith, h)))
-ways-above m n (node id at tags ∷ later) h = ways-above m (suc n) later (omega (arith, h))
-ways-above m n (relation id tags members ∷ later) h = ways-above m (suc n) later (omega (arith, h))
-
-ways-rise : (n : ℕ) (elements : List Element) → Pairs (λ (u v : WayEl). u.index ≢ v.index) (numbered as_way n elements)
-ways-rise n [] = tt
-ways-rise n (way id tags refs ∷ later) = (each_weaker (λ (v : WayEl). n < v.index) (λ (v : WayEl). n ≢ v.index) (λ v h e. omega (arith, h, e)) (numbered as_way (suc n) later) (ways-above n (suc n) later (omega arith)), ways-rise (suc n) later)
-ways-rise n (node id at tags ∷ later) = ways-rise (suc n) later
-ways-rise n (relation id tags members ∷ later) = ways-rise (suc n) later
-
-pub elements-numbered : (elements : List Element) → AreNumbered (block_in elements)
-elements-numbered elements = record {
-  nodes = AllPairs_from_pairs (λ (u v : NodeEl). u.index ≢ v.index) (numbered as_node 0 elements) (nodes-rise 0 elements);
-  ways = AllPairs_from_pairs (λ (u v : WayEl). u.index ≢ v.index) (numbered as_way 0 elements) (ways-rise 0 elements);
-}
-
-abbrev node_place : ℕ → NodeEl → Place
-node_place block n = record { block = block; index = n.index }
-
--- all nodes of blocks have different places
-pub places-differ : (bs : List (ℕ × Block)) → KeysDiffer (λ b. b.0) bs → All (λ b. AreNumbered b.1) bs → KeysDiffer (λ n. n.0) (all_nodes bs)
-places-differ bs differ h =
-    AllPairs_from_pairs (λ (m n : Place × NodeEl). m.0 ≢ n.0) (all_nodes bs)
-    (names-walked (λ (n : Place × NodeEl). n.0) (λ b. b.0) (λ (p : Place). p.block) placed_nodes bs (pairs_from_AllPairs (λ (a b : ℕ × Block). a.0 ≢ b.0) bs differ) (marks bs)
-    (each_weaker (λ (b : ℕ × Block). AreNumbered b.1) (λ b. Pairs (λ (m n : Place × NodeEl). m.0 ≢ n.0) (placed_nodes b))
-    (λ b k. pairs_map (λ (m n : Place × NodeEl). m.0 ≢ n.0) (λ (n : NodeEl). (record { block = b.0; index = n.index }, n)) b.1.nodes
-    (pairs_weaker (λ (m n : NodeEl). m.index ≢ n.index) (λ (m n : NodeEl). node_place b.0 m ≢ node_place b.0 n) (λ m n other e. other (ap (λ (p : Place). p.index) e)) b.1.nodes (pairs_from_AllPairs (λ (m n : NodeEl). m.index ≢ n.index) b.1.nodes k.nodes)))
-    bs (recursion_from_All (λ (b : ℕ × Block). AreNumbered b.1) bs h)))
-  where
-    in-block : (block : ℕ) (nodes : List NodeEl) → AllByRecursion (λ (n : Place × NodeEl). n.0.block ≡ block) (map (λ (n : NodeEl). (record { block = block; index = n.index }, n)) nodes)
-    in-block block [] = tt
-    in-block block (n ∷ nodes) = (refl, in-block block nodes)
-
-    marks : (blocks : List (ℕ × Block)) → AllByRecursion (λ b. AllByRecursion (λ (n : Place × NodeEl). n.0.block ≡ b.0) (placed_nodes b)) blocks
-    marks [] = tt
-    marks (b ∷ blocks) = (in-block b.0 b.1.nodes, marks blocks)
+    (kind-apart kinds.Relation (λ (r : RelEl). r.index) (λ b. b.relations) (relation_features parts shape_at) (relation-own parts shape_at) (relation-apart parts shape_at) bs apart
+    (each_weaker (λ (b : ℕ × Block). AreNumbered b.1) _ (λ b k. pairs_from_AllPairs (λ (m n : RelEl). m.index ≢ n.index) b.1.relations k.relations) bs each))
+    (across kinds.Way kinds.Relation (λ e. absurd cc) ways relations of-ways of-relations))
+    (across-both points ways relations (across kinds.Node kinds.Way (λ e. absurd cc) points ways of-nodes of-ways) (across kinds.Node kinds.Relation (λ e. absurd cc) points relations of-nodes of-relations)))

@@ -10,6 +10,7 @@ use Rattle.tile_model.proofs.Built
 use Rattle.tile_model.specs.ExtractLaws.{ExtractLaws}
 use Rattle.tile_model.proofs.PointFeatures
 use Rattle.tile_model.proofs.Names
+use Rattle.tile_model.proofs.Numbering
 use Rattle.tile_model.proofs.Ranges
 
 pub tiles : (F T X : Type 0) → TileLaws F T X
@@ -47,7 +48,8 @@ points = record {
 pub extracts : ExtractLaws
 extracts = record {
   differ = Names.names-differ;
-  numbered = Names.elements-numbered;
-  placed = Names.places-differ;
+  numbered = Numbering.elements-numbered;
+  placed = Numbering.nodes-placed;
+  ways_placed = Numbering.ways-placed;
   within = Ranges.all-within;
 }

@@ -7,7 +7,13 @@ use Rattle.int_mercator.specs.Places.{x_of, north_of, y_of, world_of, grid_of}
 use Rattle.strip_clip.specs.Cuts.{cut_of}
 use Rattle.tile_model.specs.Tiles.{tiles_between}
 use Rattle.tile_model.specs.Worked.{WorkedPoints, WorkedTiles}
+use Rattle.tile_model.specs.WorkedRelations.{WorkedRelations}
 use Rattle.tile_model.specs.WorkedWays.{WorkedWays}
+use Rattle.ring_assembly.specs.Chains.{grown, ring_of, rings_of, assembled}
+use Rattle.ring_assembly.specs.Nesting.{encloses, contains, depth_of, is_outer_of, outer_of, inners_at, polygon_at, nested}
+use Rattle.ring_assembly.specs.Rings.{clean_ring}
+use Rattle.tb_types.specs.Points.{turn}
+use Rattle.ring_assembly.specs.Sides.{on_edge, crosses}
 use Rattle.tile_model.specs.World.{simple_path, simple_ring}
 use Rattle.line_simplify.specs.Key.{key_of, distance_of, scalar_of, cross_of}
 use Rattle.line_simplify.specs.Rule.{simplified, kept, split_of}
@@ -23,3 +29,7 @@ tiles = record { ids = refl; none = refl; rows = refl; emitted = refl; walk = re
 pub ways : WorkedWays
 unfolding simple_path simple_ring simplified kept split_of key_of distance_of scalar_of cross_of world_of x_of y_of north_of quarter entry_of height_of secant_of cosine_of series grid_of
 ways = record { moved_away = refl; moved_back = refl; other_order = refl; unknown = refl; closed = refl; alone = refl; missing = refl; twice = refl; area = refl; open_area = refl; line = refl; grid_line = refl; one_point = refl; grid_area = refl; gone = refl }
+
+pub relations : WorkedRelations
+unfolding turn grown ring_of rings_of assembled encloses contains depth_of is_outer_of outer_of inners_at polygon_at nested clean_ring on_edge crosses world_of x_of y_of north_of quarter entry_of height_of secant_of cosine_of series
+relations = record { ways = refl; once = refl; along = refl; alone = refl; latest = refl; missing = refl; square = refl; unclosed = refl; line = refl }

@@ -1,6 +1,5 @@
 -- The features of an extract, by the elements of its blocks.
-use Rattle.std.specs.Prelude.{ℕ, Option, None, Some, option_and_then, if◌then◌else◌, Bool, true, false, List, [], ◌∷◌, ◌++◌, map, filter, flat_map}
-use Rattle.std.specs.List.{list_any}
+use Rattle.std.specs.Prelude.{ℕ, Option, None, Some, option_and_then, if◌then◌else◌, Bool, true, false, ◌||◌, List, [], ◌∷◌, ◌++◌, map, filter, flat_map}
 use Rattle.std.specs.Ordering.{is_lt}
 use Rattle.tb_types.specs.Orders.{place_order}
 use Rattle.tb_types.specs.declared.element.Kind.TheVariants as kinds
@@ -14,9 +13,11 @@ use Rattle.osm_elements.specs.declared.element.Block.{Block}
 use Rattle.profile_rules.specs.declared.parts.Parts.{Parts}
 use Rattle.profile_rules.specs.Features.{specs_of}
 use Rattle.ring_assembly.specs.Chains.{same_node}
+use Rattle.ring_assembly.specs.declared.way.WayShape.{WayShape}
 use Rattle.tile_model.specs.Features.{Feature}
 use Rattle.tile_model.specs.Points.{point_of, points_of}
 use Rattle.tile_model.specs.Ways.{ways_of}
+use Rattle.tile_model.specs.Relations.{way_along, relations_of}
 
 -- the nodes of a block, each with its place
 abbrev pub placed_nodes : ℕ × Block → List (Place × NodeEl)
@@ -38,9 +39,20 @@ latest (x ∷ xs) = later x (latest xs)
 abbrev pub location_of : List (ℕ × Block) → OsmId → Option World
 location_of blocks id = option_and_then (λ n. point_of n.1) (latest (filter (λ n. same_node n.1.id id) (all_nodes blocks)))
 
--- the features of an extract: those of its nodes and of its ways
+-- the ways of a block, each with its place
+abbrev pub placed_ways : ℕ × Block → List (Place × WayEl)
+placed_ways b = map (λ (w : WayEl). (record { block = b.0; index = w.index }, w)) b.1.ways
+
+abbrev pub all_ways : List (ℕ × Block) → List (Place × WayEl)
+all_ways blocks = flat_map placed_ways blocks
+
+-- The shape of a way in an extract: that of the way of its id at the greatest place, also where it is missing.
+abbrev pub shape_of : List (ℕ × Block) → OsmId → Option WayShape
+shape_of blocks id = option_and_then (λ w. way_along (location_of blocks) w.1.refs) (latest (filter (λ w. same_node w.1.id id) (all_ways blocks)))
+
+-- the features of an extract: those of its nodes, of its ways and of its relations
 abbrev pub features_of : Parts → List (ℕ × Block) → List Feature
-features_of parts blocks = points_of parts blocks ++ ways_of parts (location_of blocks) blocks
+features_of parts blocks = points_of parts blocks ++ (ways_of parts (location_of blocks) blocks ++ relations_of parts (shape_of blocks) blocks)
 
 -- a rule makes something of a relation
 abbrev pub is_some_list : {A : Type 0} → List A → Bool
@@ -50,16 +62,14 @@ is_some_list (x ∷ xs) = true
 abbrev pub is_kept : Parts → RelEl → Bool
 is_kept parts r = is_some_list (specs_of parts r.tags kinds.Relation)
 
-abbrev pub has_kept : Parts → List (ℕ × Block) → Bool
-has_kept parts blocks = list_any (λ b. list_any (is_kept parts) b.1.relations) blocks
-
--- a rule makes something of a way, and the nodes that it needs then
+-- a rule makes something of a way
 abbrev pub is_drawn : Parts → WayEl → Bool
 is_drawn parts w = is_some_list (specs_of parts w.tags kinds.Way)
 
-abbrev pub needed_refs : Parts → WayEl → List OsmId
-needed_refs parts w = if is_drawn parts w then w.refs else []
+-- the nodes that a way needs, if a rule makes something of it, or it is one of these members of relations
+abbrev pub needed_refs : Parts → (OsmId → Bool) → WayEl → List OsmId
+needed_refs parts is_member w = if is_drawn parts w || is_member w.id then w.refs else []
 
 -- all nodes that the ways of blocks need
-abbrev pub all_refs : Parts → List (ℕ × Block) → List OsmId
-all_refs parts blocks = flat_map (λ (b : ℕ × Block). flat_map (needed_refs parts) b.1.ways) blocks
+abbrev pub all_refs : Parts → (OsmId → Bool) → List (ℕ × Block) → List OsmId
+all_refs parts is_member blocks = flat_map (λ (b : ℕ × Block). flat_map (needed_refs parts is_member) b.1.ways) blocks

@@ -5,6 +5,7 @@ use Rattle.tb_types.specs.declared.element.Kind.{Kind}
 use Rattle.tb_types.specs.declared.element.Kind.TheVariants as kinds
 use Rattle.tb_types.specs.declared.shape.Shape.{Shape}
 use Rattle.tb_types.specs.declared.tile.TileXyz.{TileXyz}
+use Rattle.profile_rules.specs.declared.parts.Form.{Form}
 use Rattle.profile_rules.specs.declared.parts.Parts.{Parts}
 use Rattle.profile_rules.specs.declared.spec.Spec.{Spec}
 use Rattle.strip_clip.specs.Cuts.{cut_of}
@@ -46,3 +47,7 @@ shape_feature parts origin shape spec = record {
   max = spec.max;
   row = λ tile. option_map (row_of (feature_id origin.kind origin.id.0) spec.attributes) (left_in parts spec.layer shape tile);
 }
+
+-- what a spec makes of an element, if that has a shape in the form that the spec asks for
+abbrev pub form_feature : Parts → Origin → (Form → Option WorldShape) → Spec → Option Feature
+form_feature parts origin shape_in spec = option_map (λ shape. shape_feature parts origin shape spec) (shape_in spec.form)

@@ -12,7 +12,7 @@ use Rattle.profile_rules.specs.declared.spec.Spec.{Spec}
 use Rattle.profile_rules.specs.Features.{specs_of}
 use Rattle.ring_assembly.specs.Chains.{same_node}
 use Rattle.tile_model.specs.Features.{Feature}
-use Rattle.tile_model.specs.Rows.{shape_feature}
+use Rattle.tile_model.specs.Rows.{form_feature}
 use Rattle.tile_model.specs.declared.world.Origin.{Origin}
 use Rattle.tile_model.specs.World.{without_last}
 use Rattle.tile_model.specs.declared.world.WorldShape.{WorldShape}
@@ -56,7 +56,7 @@ way_origin block w = record { kind = kinds.Way; place = record { block = block; 
 
 -- what a spec makes of a way of a block, if the way has the shape that it asks for
 abbrev pub way_feature : Parts → (OsmId → Option World) → ℕ → WayEl → Spec → Option Feature
-way_feature parts locate block w spec = option_map (λ shape. shape_feature parts (way_origin block w) shape spec) (way_shape locate w.refs spec.form)
+way_feature parts locate block w spec = form_feature parts (way_origin block w) (way_shape locate w.refs) spec
 
 -- the features of a way, in the order of its rules
 abbrev pub way_features : Parts → (OsmId → Option World) → ℕ → WayEl → List Feature

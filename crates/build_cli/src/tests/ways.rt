@@ -44,7 +44,11 @@ const FOREST: &[u8] =
     b"\x1a:\x0a\x04land\x12\x1a\x08\x16\x12\x02\x00\x00\x18\x03\x22\x10\x09\x80 \x82\x17\x1a\x80\x10\x00\x00\xfe\x08\xff\x0f\x00\x0f\x1a\x07landuse\x22\x08\x0a\x06forest(\x80 x\x02";
 
 // Builds an extract of the header frame and these blocks.
-fn build_of(alloc: Global, blocks: &[&[u8]], faults: &Faults<'_>) -> Result<Ran, Memory> {
+pub(super) fn build_of(
+    alloc: Global,
+    blocks: &[&[u8]],
+    faults: &Faults<'_>,
+) -> Result<Ran, Memory> {
     let mut extract = Vec::from_slice(alloc, HEADER)?;
     for block in blocks {
         extract.extend_from_slice(block)?;

@@ -4,7 +4,7 @@ use Rattle.build_one.proofs.survey.take_blocks.Goals as goal
 
 pub loop-block-init : goal.loop-block-init
 loop-block-init g c =
-    surveying-start c.args.profile.now c.args.blocks.now (g.R.Source.seen c.args.reader.now) c.new-found.result (λ extract. c.new-found.ensures.holds c.args.profile.now extract) c.new-found.ensures.none c.new-found.ensures.ready
+    surveying-start c.args.profile.now c.args.blocks.now (g.R.Source.seen c.args.reader.now) c.new-found.result (λ extract. c.new-found.ensures.holds c.args.profile.now extract) c.new-found.ensures.none (c.new-found.ensures.ready c.args.profile.now)
 
 pub take_block-requires : goal.take_block-requires
 take_block-requires g c =

@@ -1,4 +1,4 @@
-use Rattle.tile_model.proofs.WorkedCases.{points, tiles, ways}
+use Rattle.tile_model.proofs.WorkedCases.{points, tiles, ways, relations}
 use Rattle.tile_model.proofs.worked.worked_tiles.Goals as goal
 
 pub returns-clause-points : goal.returns-clause-points
@@ -9,3 +9,6 @@ returns-clause-tiles c = tiles
 
 pub returns-clause-ways : goal.returns-clause-ways
 returns-clause-ways c = ways
+
+pub returns-clause-relations : goal.returns-clause-relations
+returns-clause-relations c = relations

@@ -9,7 +9,7 @@ returns-in-Ok-clause-takes c = λ parts extract is so_far h.
     (header-at extract c.args.block c.args.body.now (Ok c.in-Ok.found) c.requires.kind is ((c.in-Ok.ensures {u = tt}).given)) so_far h
 
 pub returns-in-Ok-clause-ready : goal.returns-in-Ok-clause-ready
-returns-in-Ok-clause-ready c = λ h. ready-box c.args.self.now c.note_box.new.self c.in-Ok.found c.note_box.ensures ((c.in-Ok.ensures {u = tt}).valid) h
+returns-in-Ok-clause-ready c = λ parts h. ready-box parts c.args.self.now c.note_box.new.self c.in-Ok.found c.note_box.ensures ((c.in-Ok.ensures {u = tt}).valid) h
 
 pub returns-in-Ok-clause-steps : goal.returns-in-Ok-clause-steps
 returns-in-Ok-clause-steps c =

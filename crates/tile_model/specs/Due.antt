@@ -9,16 +9,15 @@ use Rattle.pmtiles_dirs.specs.declared.meta.Meta.{Meta}
 use Rattle.pmtiles_dirs.specs.Contents.{Tile, entries_of}
 use Rattle.pmtiles_dirs.specs.Contents as archives
 use Rattle.pmtiles_dirs.specs.Archive.{archive_text}
-use Rattle.pmtiles_file.specs.declared.totals.Totals.{Totals}
-use Rattle.build_one.specs.declared.from.ProfileFrom.{ProfileFrom}
-use Rattle.build_one.specs.declared.from.ProfileFrom.TheVariants as profiles
-use Rattle.build_one.specs.declared.stop.Stop.{Stop}
-use Rattle.build_one.specs.declared.stop.Stop.TheVariants as stops
-use Rattle.build_one.specs.Objects.{Objects, extract_in}
+use Rattle.pmtiles_dirs.specs.declared.totals.Totals.{Totals}
+use Rattle.tile_model.specs.declared.from.ProfileFrom.{ProfileFrom}
+use Rattle.tile_model.specs.declared.from.ProfileFrom.TheVariants as profiles
+use Rattle.tile_model.specs.declared.stop.Stop.{Stop}
+use Rattle.tile_model.specs.declared.stop.Stop.TheVariants as stops
+use Rattle.tile_model.specs.Objects.{Objects, extract_in}
 use Rattle.tile_model.specs.Contents.{Content, contents_of}
 use Rattle.tile_model.specs.Bounds.{first_box}
-use Rattle.tile_model.specs.Extract.{has_kept}
-use Rattle.tile_model.specs.Map.{blocks_in, tiles_of, has_giant, meta_of}
+use Rattle.tile_model.specs.Map.{tiles_of, has_giant, meta_of}
 
 -- an archive: its tiles, what it holds, and its bytes
 pub record Built : Type 0 where
@@ -41,9 +40,9 @@ built_of meta tiles = record { tiles = tiles; totals = totals_of meta tiles; byt
 abbrev pub due_of_tiles : Meta → List Tile → Due
 due_of_tiles meta tiles = if has_giant tiles then Err stops.NotYet else Ok (built_of meta tiles)
 
--- relations aren't built yet
+-- the tiles of what blocks hold, and the box of the first header
 abbrev pub due_of_blocks : Parts → List Content → Due
-due_of_blocks parts contents = if has_kept parts (blocks_in contents) then Err stops.NotYet else due_of_tiles (meta_of parts (first_box contents)) (tiles_of parts contents)
+due_of_blocks parts contents = due_of_tiles (meta_of parts (first_box contents)) (tiles_of parts contents)
 
 abbrev pub due_of_contents : Parts → Result (List Content) Damage → Due
 due_of_contents parts (Ok contents) = due_of_blocks parts contents
