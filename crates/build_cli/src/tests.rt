@@ -5,7 +5,9 @@ ghost use Rattle.build_one.specs.Answers.{OnBuilt};
 ghost use Rattle.build_cli.specs.Command.{command_of};
 ghost use Rattle.build_cli.specs.Told.{due_of};
 
+mod again;
 mod damage;
+mod edges;
 mod failing;
 mod looks;
 mod many;
@@ -14,6 +16,7 @@ mod places;
 mod profiles;
 mod relations;
 mod ways;
+mod wide;
 mod words;
 mod zooms;
 

@@ -1,5 +1,5 @@
 -- The items of an element that has a shape in some forms, spec after spec; ways and specs that have none.
-use Rattle.std.proofs.Common.{◌≡◌, ℕ, ◌+◌, ◌<◌, Bool, true, false, cond, Option, None, Some, option_map, List, [], ◌∷◌, ◌++◌, filter_map, length, take, get_or, All, arith, refl, sym, ap, subst, ◌∙◌, append_assoc}
+use Rattle.std.proofs.Common.{◌≡◌, ℕ, ◌+◌, ◌<◌, Bool, true, false, cond, Option, None, Some, option_map, List, [], ◌∷◌, ◌++◌, map, filter_map, length, take, get_or, All, arith, refl, sym, ap, subst, ◌∙◌, append_assoc}
 use Rattle.std.specs.List.{AllByRecursion, cons_option}
 use Rattle.tb_types.specs.declared.element.OsmId.{OsmId}
 use Rattle.tb_types.specs.declared.location.World.{World}
@@ -7,13 +7,17 @@ use Rattle.profile_rules.specs.declared.parts.Form.{Form}
 use Rattle.profile_rules.specs.declared.parts.Form.TheVariants as forms
 use Rattle.profile_rules.specs.declared.parts.Parts.{Parts}
 use Rattle.profile_rules.specs.declared.spec.Spec.{Spec}
+use Rattle.profile_rules.specs.Features.{specs_of}
 use Rattle.profile_rules.specs.Sound.{IsSoundSpec}
+use Rattle.osm_elements.specs.declared.element.NodeEl.{NodeEl}
+use Rattle.tb_types.specs.declared.element.Kind.TheVariants as kinds
 use Rattle.ring_assembly.specs.declared.polygon.Polygon.{Polygon}
 use Rattle.ring_assembly.specs.declared.way.WayShape.{WayShape}
 use Rattle.mvt_codec.specs.declared.item.RunItem.{RunItem}
 use Rattle.tile_model.specs.Features.{Feature}
 use Rattle.tile_model.specs.Items.{Gains}
 use Rattle.tile_model.specs.Rows.{shape_feature, form_feature}
+use Rattle.tile_model.specs.Points.{point_of, point_feature, if_placed, node_features}
 use Rattle.tile_model.specs.Relations.{polygons_of, area_of, relation_shape}
 use Rattle.tile_model.specs.Tiles.{feature_items, emitted_items}
 use Rattle.tile_model.specs.Ways.{path_of, is_closed, ring_area, way_shape}
@@ -93,6 +97,14 @@ module _ (parts : Parts) (origin : Origin) (shape_in : Form → Option WorldShap
       → Gains parts (emitted_items (of_specs (take (i + 1) specs))) old new
   spec-next specs i s old now new more is g h =
       gains-as parts _ _ old new (sym (last-spec specs i s more)) (gains-both parts _ _ old now new g (subst (λ (x : Spec). Gains parts (emitted_items (of_specs (x ∷ []))) now new) is h))
+
+-- a node without specs
+pub no-points : (parts : Parts) (block : ℕ) (n : NodeEl) (items : List RunItem) → specs_of parts n.tags kinds.Node ≡ [] → Gains parts (emitted_items (node_features parts block n)) items items
+no-points parts block n items e = gains-as parts [] _ items items (sym (ap emitted_items (none (point_of n)))) (gains-none parts items)
+  where
+    none : (at : Option World) → if_placed parts block n at ≡ []
+    none None = refl
+    none (Some w) = ap (map (point_feature parts block n w)) e
 
 -- the forms of a way without points
 module _ (locate : OsmId → Option World) (refs : List OsmId) where

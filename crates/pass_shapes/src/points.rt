@@ -3,7 +3,6 @@ ghost use Rattle.profile_rules.specs.Sound.{IsSound, IsSoundSpec};
 ghost use Rattle.tile_model.specs.Points.{node_features, point_feature, point_ints, point_of, projected, reach_tiles, AreFew, IsOnGrid};
 ghost use Rattle.tile_model.specs.Rows.{feature_id};
 ghost use Rattle.tile_model.specs.World.{grid_point};
-ghost use Rattle.profile_rules.specs.Features.{specs_of};
 ghost use Rattle.tb_types.specs.Zigzag.{zigzag_of};
 ghost use Rattle.tile_model.specs.Tiles.{emitted_items, feature_items, zoom_items};
 ghost use Rattle.tb_types.specs.declared.element.Kind.TheVariants as kinds;
@@ -43,7 +42,7 @@ pub fn put_points(
 }
 
 // Adds the items of a node of a block, if it has a location: for each spec that the rules of the profile make of it a point
-// at each of the spec's zooms, in each tile whose buffer holds it.
+// at each of the spec's zooms, in each tile whose buffer holds it. Most nodes have no spec, and aren't projected.
 fn put_items(
     items: &mut Vec<RunItem>,
     alloc: Global,
@@ -55,26 +54,14 @@ fn put_items(
     requires sound { IsSound profile.now }
     ensures { OnOk result (Gains profile.now (emitted_items (node_features profile.now block node.now)) items.old.items items.new.items) }
 {
+    let specs = specs(alloc, profile, &node.tags, Kind::Node)?;
+    if specs.as_slice().is_empty() {
+        return Ok(());
+    }
     match point_of(table, node) {
         None => Ok(()),
-        Some(point) => put_specs(items, alloc, profile, block, node, point),
+        Some(point) => put_each(items, alloc, profile, block, node, point, specs.as_slice()),
     }
-}
-
-// Adds the items of a node at a point.
-fn put_specs(
-    items: &mut Vec<RunItem>,
-    alloc: Global,
-    profile: &Profile,
-    block: u32,
-    node: &NodeEl,
-    point: World,
-) -> Result<(), Memory>
-    requires sound { IsSound profile.now }
-    ensures { OnOk result (Gains profile.now (emitted_items (map (point_feature profile.now block node.now point) (specs_of profile.now node.now.tags kinds.Node))) items.old.items items.new.items) }
-{
-    let specs = specs(alloc, profile, &node.tags, Kind::Node)?;
-    put_each(items, alloc, profile, block, node, point, specs.as_slice())
 }
 
 // Adds the items of specs, one after another.

@@ -14,7 +14,12 @@ const FOUR_UNITS: i64 = 3_515_625;
 const VALUES: [&[u8]; 3] = [b"bench", b"cafe", b"bank"];
 
 // A packed list of a number, as a field.
-fn put_list(out: &mut Vec<u8>, alloc: Global, number: u32, items: &[u64]) -> Result<(), Memory> {
+pub(super) fn put_list(
+    out: &mut Vec<u8>,
+    alloc: Global,
+    number: u32,
+    items: &[u64],
+) -> Result<(), Memory> {
     let mut list = Vec::new(alloc);
     for item in items {
         put_varint(&mut list, *item)?;

@@ -4,19 +4,19 @@ use std::test::Fail;
 use tb_types::Memory;
 
 // Zoom 0, roads as lines and land use as areas.
-const P1: &[u8] =
+pub(super) const P1: &[u8] =
     b"format = 1\nmaxzoom = 0\n[[layer]]\nid = \"roads\"\n[[layer]]\nid = \"land\"\n[[rule]]\nlayer = \"roads\"\nkind = \"line\"\nwhen = [\"highway\"]\n[[rule]]\nlayer = \"land\"\nkind = \"area\"\nwhen = [\"landuse\"]\nattributes = [{ key = \"landuse\" }]\n";
 
 // A block with node 7 at 0,0 and node 8 at latitude 0 and longitude 45.
-const PLACES: &[u8] =
+pub(super) const PLACES: &[u8] =
     b"\x00\x00\x00\x0b\x0a\x07OSMData\x18\x1a\x0a\x18\x0a\x02\x0a\x00\x12\x12\x12\x10\x0a\x02\x0e\x02B\x02\x00\x00J\x06\x00\x80\xd2\x93\xad\x03";
 
 // A block with node 7 again, at latitude 0 and longitude 90.
-const MOVED: &[u8] =
+pub(super) const MOVED: &[u8] =
     b"\x00\x00\x00\x0b\x0a\x07OSMData\x18\x17\x0a\x15\x0a\x02\x0a\x00\x12\x0f\x12\x0d\x0a\x01\x0eB\x01\x00J\x05\x80\xa4\xa7\xda\x06";
 
 // A block with way 1 along nodes 7 and 8, `highway=primary`.
-const ROAD: &[u8] =
+pub(super) const ROAD: &[u8] =
     b"\x00\x00\x00\x0b\x0a\x07OSMData\x18(\x0a&\x0a\x14\x0a\x00\x0a\x07highway\x0a\x07primary\x12\x0e\x1a\x0c\x08\x01\x12\x01\x01\x1a\x01\x02B\x02\x0e\x02";
 
 // The same along nodes 7 and 9, of which the second isn't there.
