@@ -1,5 +1,6 @@
 #!/usr/bin/env python3
-"""Writes the extract of a small village with raw blobs: streets with names, a river, houses, a wood, meadows, a lake and named places.
+"""Writes the extract of a small village with raw blobs: streets with names, a river, houses, a school round a courtyard, a wood, a clearing in it,
+meadows, a lake with an island, and named places.
 Usage: village.py FILE. The same bytes each time; crates/tilebuild/data/village.pbf is made by it."""
 import sys
 
@@ -22,7 +23,7 @@ class Draw:
 
 class Map:
     def __init__(self):
-        self.nodes, self.ways = [], []
+        self.nodes, self.ways, self.relations = [], [], []
 
     def node(self, x, y, tags=()):
         """A node at x to the east and y to the north of the market place, in hundredths of a step."""
@@ -31,13 +32,22 @@ class Map:
 
     def way(self, refs, tags):
         self.ways.append((refs, tags))
+        return len(self.ways)
 
     def line(self, points, tags):
         self.way([self.node(x, y) for x, y in points], tags)
 
     def area(self, points, tags):
         refs = [self.node(x, y) for x, y in points]
-        self.way(refs + refs[:1], tags)
+        return self.way(refs + refs[:1], tags)
+
+    def multipolygon(self, points, holes, tags):
+        """An area with holes: its outer ring is two ways, of which the second goes the other way round."""
+        refs = [self.node(x, y) for x, y in points]
+        half = len(refs) // 2
+        outer = [self.way(refs[:half + 1], []), self.way((refs[half:] + refs[:1])[::-1], [])]
+        inner = [self.area(hole, []) for hole in holes]
+        self.relations.append(([(way, "outer") for way in outer] + [(way, "inner") for way in inner], [("type", "multipolygon")] + tags))
 
 
 def streets(m):
@@ -68,10 +78,14 @@ def houses(m, draw):
 
 
 def land(m):
-    m.area([(-420, 240), (-300, 330), (-60, 340), (40, 430), (-40, 610), (-330, 640), (-520, 470)], [("landuse", "forest"), ("name", "Beech Wood")])
+    wood = [(-420, 240), (-300, 330), (-60, 340), (40, 430), (-40, 610), (-330, 640), (-520, 470)]
+    m.multipolygon(wood, [[(-250, 430), (-180, 440), (-190, 500), (-260, 490)]], [("landuse", "forest"), ("name", "Beech Wood")])
     m.area([(120, 250), (330, 240), (420, 330), (330, 430), (160, 400)], [("landuse", "meadow")])
     m.area([(-360, -250), (360, -270), (390, 230), (-340, 235)], [("landuse", "residential")])
-    m.area([(470, 120), (560, 90), (640, 130), (660, 210), (590, 270), (500, 240)], [("natural", "water"), ("name", "Village Lake")])
+    lake = [(470, 120), (560, 90), (640, 130), (660, 210), (590, 270), (500, 240)]
+    m.multipolygon(lake, [[(560, 170), (600, 165), (605, 200), (570, 210)]], [("natural", "water"), ("name", "Village Lake")])
+    school = [(-66, 112), (-22, 112), (-22, 148), (-66, 148)]
+    m.multipolygon(school, [[(-54, 122), (-34, 122), (-34, 138), (-54, 138)]], [("building", "school")])
     m.line([(-800, -330), (-500, -310), (-250, -330), (0, -300), (250, -320), (420, -260), (560, -60), (600, 100)], [("waterway", "river"), ("name", "Aach")])
 
 
@@ -79,7 +93,7 @@ def places(m):
     m.node(0, 10, [("place", "village"), ("name", "Hohenbuch"), ("population", "1260")])
     m.node(640, -240, [("place", "hamlet"), ("name", "Weiler")])
     m.node(22, 30, [("amenity", "cafe"), ("name", "Linde")])
-    m.node(-60, -20, [("amenity", "school"), ("name", "Village School")])
+    m.node(-44, 117, [("amenity", "school"), ("name", "Village School")])
     m.node(110, 20, [("amenity", "fountain")])
     m.node(-180, 110, [("amenity", "place_of_worship"), ("name", "St. Martin")])
 
@@ -117,6 +131,16 @@ def ways_block(m):
     return strings.table() + field(2, group)
 
 
+def relations_block(m):
+    strings, group = Strings(), b""
+    for i, (members, tags) in enumerate(m.relations):
+        keys, values = [strings(key) for key, _ in tags], [strings(value) for _, value in tags]
+        roles, ways = [strings(role) for _, role in members], differences(way for way, _ in members)
+        lists = ((2, keys), (3, values), (8, roles), (9, ways), (10, [1] * len(members)))
+        group += field(4, number(1, i + 1) + b"".join(field(at, packed(list_of)) for at, list_of in lists))
+    return strings.table() + field(2, group)
+
+
 def header(m):
     box = [min(n[1] for n in m.nodes), max(n[1] for n in m.nodes), max(n[0] for n in m.nodes), min(n[0] for n in m.nodes)]
     bounds = b"".join(number(at + 1, zigzag(100 * n)) for at, n in enumerate(box))
@@ -130,7 +154,7 @@ def main():
     land(m)
     places(m)
     with open(sys.argv[1], "wb") as out:
-        out.write(frame(b"OSMHeader", header(m)) + frame(b"OSMData", nodes_block(m)) + frame(b"OSMData", ways_block(m)))
+        out.write(frame(b"OSMHeader", header(m)) + b"".join(frame(b"OSMData", block(m)) for block in (nodes_block, ways_block, relations_block)))
 
 
 main()
