@@ -22,7 +22,7 @@ use Rattle.mvt_codec.specs.Order.{order_number, kind_number, FitsOrder, FitsKey}
 use Rattle.mvt_codec.specs.Items.{fixed, key_text, sized, attribute_text, row_text, item_text, tiles_end, IsNamed, IsItem, Fits, StandsAt}
 use Rattle.feature_runs.specs.Apart.{ItemsStandApart}
 use Rattle.mvt_geom.specs.Options.{◌>>=◌}
-use Rattle.feature_runs.specs.ItemReading.{only_if, number_at, byte_at, varint_at, split_off, parts_at, int_at, ints_at, whole, attribute_at, attributes_at, row_of, order_of, kind_of, key_at, item_at}
+use Rattle.feature_runs.specs.ItemReading.{only_if, number_at, byte_at, varint_at, split_off, parts_at, int_at, ints_at, whole, attribute_at, attributes_at, row_of, order_of, kind_of, key_at, head_at, item_at}
 use Rattle.feature_runs.proofs.ItemParts.{IsBytes, IsBytes-drop, some_next, some_if, some_is, Takes, Takes-then, Reads, varints, numbers, wide16, wide32, wide64, bytes_one, taken, parts_back, parts_again}
 use Rattle.feature_runs.proofs.ItemLaws.{both_true, ints_both, attributes_both, nothing_left, IsSizedAttribute}
 use Rattle.mvt_codec.proofs.ItemLengths.{item_len, row_len, attribute_len}
@@ -317,6 +317,18 @@ item_again item rest is fits =
     let long : nat_le (length text) (length (text ++ rest)) ≡ true = le-leb _ _ (omega (arith, length-append text rest)) in
     ap item_at regrouped
     ∙ rw (key_again item.key (len ++ (text ++ rest)) (key_is item is fits), (numbers w64 (2 ^ 64) wide64).again (length text) (text ++ rest) row.3, long, take_at text rest (length text) refl, drop_at text rest (length text) refl, row_again item.row row.0 row.1 row.2) refl
+
+-- the first 30 bytes of an item are its head
+pub head_again : (item : RunItem) (bytes rest : List ℕ) → IsItem item → Fits item → bytes ++ rest ≡ item_text item → length bytes ≡ 30 → head_at bytes ≡ Some (item.key, length (row_text item.row))
+unfolding head_at
+head_again item bytes rest is fits e thirty =
+    let row = row_text item.row in
+    let len = fixed w64 (length row) in
+    let parts : bytes ++ rest ≡ (key_text item.key ++ len) ++ row = e ∙ item_parts item ∙ sym (append_assoc (key_text item.key) len row) in
+    let size : length (key_text item.key ++ len) ≡ 30 = omega (arith, item_len item, ap length (item_parts item), length-append (key_text item.key) (len ++ row), length-append len row, length-append (key_text item.key) len) in
+    let front : bytes ≡ key_text item.key ++ len = sym (take_at bytes rest 30 thirty) ∙ ap (take 30) parts ∙ take_at (key_text item.key ++ len) row 30 size in
+    let number : number_at w64 len ≡ Some (length row, []) = ap (number_at w64) (sym (append-nil len)) ∙ (numbers w64 (2 ^ 64) wide64).again (length row) [] (row_is item is fits).3 in
+    ap head_at front ∙ rw (key_again item.key len (key_is item is fits), number) refl
 
 -- an item that was read stands at its place
 pub found_at : (bytes : List ℕ) (at : ℕ) (item : RunItem) (rest : List ℕ) → at ≤ length bytes → IsBytes bytes → length bytes < 2 ^ 64 → item_at (drop at bytes) ≡ Some (item, rest)

@@ -177,6 +177,13 @@ key_at bytes = do
   only_if (nat_lt tile.0 tiles_end && nat_le layer.0 63)
       (record { tile = tile.0; layer = layer.0; order = order_of order.0; kind = kind; place = record { block = block.0; index = index.0 }; rule = rule.0 }, rule.1)
 
+-- the key of the item that begins here, and the length of its row
+unfoldable pub head_at : List ℕ → Option (ItemKey × ℕ)
+head_at bytes = do
+  key ← key_at bytes
+  len ← number_at w64 key.1
+  Some (key.0, len.0)
+
 unfoldable pub item_at : List ℕ → Option (RunItem × List ℕ)
 item_at bytes = do
   key ← key_at bytes

@@ -50,7 +50,7 @@ pub fn item_of(alloc: Global, bytes: &[u8]) -> Result<(RunItem, &[u8]), Refused>
 }
 
 #[tactic(auto, unfolding(crate::specs::ItemReading::key_at))]
-fn read_key(bytes: &[u8]) -> Result<(ItemKey, &[u8]), Refused>
+pub fn read_key(bytes: &[u8]) -> Result<(ItemKey, &[u8]), Refused>
     ensures { Gives (λ x. (x.0, x.1.now)) result (key_at bytes.now) }
 {
     let (tile, rest) = read_u64(bytes)?;

@@ -1,0 +1,14 @@
+pub mod Ends
+pub mod Gathering
+pub mod Heads
+pub mod Lanes
+pub mod Leasts
+pub mod Merged
+pub mod Middles
+pub mod ObjectSteps
+pub mod Openings
+pub mod QuietRuns
+pub mod Reading
+pub mod RunItems
+pub mod Slices
+pub mod WorkedRuns

@@ -1,0 +1,23 @@
+use Rattle.std.proofs.lemmas.List.Elements.{All-set}
+use Rattle.run_merge.specs.Cursors.{IsSound, cursors_of, runs_of}
+use Rattle.run_merge.specs.Objects.{objects_of}
+use Rattle.run_merge.proofs.Slices.{if_ok, reads_wider, named_one, inside, head_of_least, loads_at}
+use Rattle.run_merge.proofs.steps.load_at.Goals as goal
+
+pub load-requires-clause-head : goal.load-requires-clause-head
+load-requires-clause-head g c = head_of_least c.args.readers.now c.args.number c.args.head c.index-readers-number.result c.requires.least
+
+pub returns-clause-loads : goal.returns-clause-loads
+returns-clause-loads g c =
+    let seen = g.S.Spill.seen in
+    let o = objects_of seen c.args.lanes.now c.args.spool.now in
+    if_ok c.load.result (λ item loads. loads_at c.args.readers.now c.args.number c.args.head c.index-readers-number.result c.requires.least o c.args.layers c.load.new.self c.requires.sound c.requires.told item loads) c.load.ensures.loads
+
+pub returns-clause-sound : goal.returns-clause-sound
+returns-clause-sound g c = All-set IsSound c.args.readers.now c.args.number c.load.new.self c.load.ensures.sound c.requires.sound
+
+pub returns-clause-reads : goal.returns-clause-reads
+returns-clause-reads g c =
+    let readers = c.args.readers.now in
+    let lt = inside readers c.args.number c.args.head c.index-readers-number.result c.requires.least in
+    reads_wider _ _ _ (runs_of (cursors_of readers)) c.load.result (named_one readers c.args.number c.index-readers-number.result lt) c.load.ensures.reads
