@@ -1,6 +1,6 @@
 #!/usr/bin/env bash
-# Builds amenities, roads, buildings and land use of a real region at zooms 10 to 14, has `check` count the features of all tiles, and GDAL
-# those of each tile by itself: both have to be the same. Outside the gate. Usage: bash bench/counted.sh
+# Builds amenities, roads, buildings and land use of a real region, multipolygons too, at zooms 10 to 14, has `check` count the features of all
+# tiles, and GDAL those of each tile by itself: both have to be the same. Outside the gate. Usage: bash bench/counted.sh
 set -eu
 top=$(cd "$(dirname "$0")/.." && pwd)
 work=$(mktemp -d)
@@ -8,8 +8,7 @@ trap 'rm -rf "$work"' EXIT
 . "$top/bench/prepare.sh"
 prepare counted "$top" "$work"
 install_if_missing ogrinfo gdal-bin || { echo "counted: skipped, GDAL can't be installed"; exit 0; }
-bash "$top/bench/get_real.sh" "$work/whole.pbf" || { echo "counted: skipped"; exit 0; }
-osmium cat --no-progress -t node -t way -f pbf,pbf_compression=none -o "$work/raw.pbf" "$work/whole.pbf"
+bash "$top/bench/get_real.sh" "$work/raw.pbf" || { echo "counted: skipped"; exit 0; }
 sed "s/MINZOOM/10/" "$top/bench/peer.toml" >"$work/peer.toml"
 "$program" build "$work/peer.toml" "$work/raw.pbf" "$work/map.pmtiles"
 "$program" check "$work/map.pmtiles"

@@ -9,6 +9,6 @@ trap 'rm -rf "$work"' EXIT
 prepare multipolygons "$top" "$work"
 bash "$top/bench/get_real.sh" "$work/odd.pbf" test_multipolygon.osm || { echo "multipolygons: skipped"; exit 0; }
 "$program" build "$top/bench/multipolygons.toml" "$work/odd.pbf" "$work/odd.pmtiles"
-osmium export --no-progress -f geojson --geometry-types=polygon -u type_id -o "$work/odd.json" "$work/odd.pbf"
+osmium export --no-progress -n -f geojson --geometry-types=polygon -u type_id -o "$work/odd.json" "$work/odd.pbf"
 python3 "$top/bench/areas.py" "$program" "$work/odd.pmtiles" 14 "$work/odd.json"
 [ $# -eq 0 ] || bash "$top/bench/picture.sh" "$work/odd.pmtiles" 14 "$1"

@@ -1,7 +1,7 @@
 #!/usr/bin/env bash
 # Runs the proved program and tilemaker on the same elements with equal profiles, on a real region and on sixteen of it side by side, and prints
-# CPU seconds, seconds by the clock, peak memory and ratios as one table. tilemaker 2.2 reads no raw blobs, so it gets compressed ones. Relations
-# are left out, since the program doesn't build their areas yet. Outside the gate. Usage: bash bench/peer.sh
+# CPU seconds, seconds by the clock, peak memory and ratios as one table. tilemaker 2.2 reads no raw blobs, so it gets compressed ones.
+# Sixteen regions are without relations: tilemaker's memory for their ways grows with the largest id. Outside the gate. Usage: bash bench/peer.sh
 set -eu
 top=$(cd "$(dirname "$0")/.." && pwd)
 work=$(mktemp -d)
@@ -9,9 +9,8 @@ trap 'rm -rf "$work"' EXIT
 . "$top/bench/prepare.sh"
 prepare peer "$top" "$work"
 install_if_missing tilemaker tilemaker || { echo "peer: skipped, tilemaker can't be installed"; exit 0; }
-bash "$top/bench/get_real.sh" "$work/whole.pbf" || { echo "peer: skipped"; exit 0; }
-osmium cat --no-progress --overwrite -t node -t way -f pbf,pbf_compression=none -o "$work/1.pbf" "$work/whole.pbf"
-python3 "$top/bench/side_by_side.py" "$work/whole.pbf" 16 "$work/16.pbf"
+bash "$top/bench/get_real.sh" "$work/1.pbf" || { echo "peer: skipped"; exit 0; }
+python3 "$top/bench/side_by_side.py" "$work/1.pbf" 16 "$work/16.pbf"
 for regions in 1 16; do
   osmium cat --no-progress --overwrite -f pbf -o "$work/$regions.zlib.pbf" "$work/$regions.pbf"
 done

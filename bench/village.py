@@ -84,8 +84,8 @@ def land(m):
     m.area([(-360, -250), (360, -270), (390, 230), (-340, 235)], [("landuse", "residential")])
     lake = [(470, 120), (560, 90), (640, 130), (660, 210), (590, 270), (500, 240)]
     m.multipolygon(lake, [[(560, 170), (600, 165), (605, 200), (570, 210)]], [("natural", "water"), ("name", "Village Lake")])
-    school = [(-66, 112), (-22, 112), (-22, 148), (-66, 148)]
-    m.multipolygon(school, [[(-54, 122), (-34, 122), (-34, 138), (-54, 138)]], [("building", "school")])
+    school = [(40, 207), (92, 207), (92, 231), (40, 231)]
+    m.multipolygon(school, [[(52, 213), (80, 213), (80, 225), (52, 225)]], [("building", "school")])
     m.line([(-800, -330), (-500, -310), (-250, -330), (0, -300), (250, -320), (420, -260), (560, -60), (600, 100)], [("waterway", "river"), ("name", "Aach")])
 
 
@@ -93,7 +93,7 @@ def places(m):
     m.node(0, 10, [("place", "village"), ("name", "Hohenbuch"), ("population", "1260")])
     m.node(640, -240, [("place", "hamlet"), ("name", "Weiler")])
     m.node(22, 30, [("amenity", "cafe"), ("name", "Linde")])
-    m.node(-44, 117, [("amenity", "school"), ("name", "Village School")])
+    m.node(46, 219, [("amenity", "school"), ("name", "Village School")])
     m.node(110, 20, [("amenity", "fountain")])
     m.node(-180, 110, [("amenity", "place_of_worship"), ("name", "St. Martin")])
 
