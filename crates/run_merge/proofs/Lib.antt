@@ -9,6 +9,7 @@ pub mod ObjectSteps
 pub mod Openings
 pub mod QuietRuns
 pub mod Reading
+pub mod Rounds
 pub mod RunItems
 pub mod Slices
 pub mod WorkedRuns

@@ -36,7 +36,7 @@ use Rattle.run_merge.proofs.Heads.{rank_of_item, len_of_item}
 use Rattle.run_merge.proofs.Merged.{no_cursor}
 use Rattle.run_merge.proofs.Gathering.{next_sound, least_of_all, head_there, ascends_push, bytes_push}
 use Rattle.run_merge.proofs.Ends.{no_bytes, none_merged}
-use Rattle.run_merge.proofs.ObjectSteps.{ended_same, ended_begun, ended_ended, ended_grown, none_spool, only_spool, told_still, tell_still, merged_still}
+use Rattle.run_merge.proofs.ObjectSteps.{ended_same, ended_begun, ended_ended, ended_grown, keeps_spool, keeps_trans, none_spool, only_spool, told_still, tell_still, merged_still}
 
 -- ---- what calls of the spool keep
 
@@ -56,6 +56,17 @@ begin_keeps s t (Err spill_errors.Memory) a = ended_same s.runs t.runs (ap (λ (
 pub end_keeps : (s t : SpillSeen) (r : Result ℕ Failed) → EndAnswers s t r → KeepsEnded s.runs t.runs
 end_keeps s t (Ok n) a = subst (KeepsEnded s.runs) (sym a.ended) (ended_ended s.runs)
 end_keeps s t (Err e) a = ended_same s.runs t.runs a.failed_runs
+
+-- after a run was begun, and after it was written and ended
+pub begun_keeps : {R : Type 0} (o : Objects R) (begun : SpillSeen) (number : Result ℕ SpillErr) → BeginAnswers o.spool begun number → Keeps o (record { readers = o.readers; spills = o.spills; spool = begun })
+begun_keeps o begun number answers = keeps_spool o.readers o.spills o.spool begun (begin_keeps o.spool begun number answers)
+
+pub written_keeps : {R : Type 0} (o written : Objects R) (begun ended : SpillSeen) (number : Result ℕ SpillErr) (len : Result ℕ Failed) → BeginAnswers o.spool begun number → Keeps (record { readers = o.readers; spills = o.spills; spool = begun }) written → EndAnswers written.spool ended len
+    → Keeps o (record { readers = written.readers; spills = written.spills; spool = ended })
+written_keeps o written begun ended number len begins writes ends =
+    keeps_trans o written (record { readers = written.readers; spills = written.spills; spool = ended })
+    (keeps_trans o (record { readers = o.readers; spills = o.spills; spool = begun }) written (begun_keeps o begun number begins) writes)
+    (keeps_spool written.readers written.spills written.spool ended (end_keeps written.spool ended len ends))
 
 -- the spool failed
 pub spool_failed : {R : Type 0} (readers : List R) (spills : List SpillSeen) (s t : SpillSeen) (runs : List NamedRun) → Rose s.faults t.faults → s.faults ≤ t.faults

@@ -4,4 +4,5 @@ pub mod Items
 pub mod Laws
 pub mod Objects
 pub mod Steps
+pub mod Winners
 pub mod Worked

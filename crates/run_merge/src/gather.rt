@@ -4,12 +4,14 @@ ghost use Rattle.run_merge.specs.Answers.{IfNext};
 ghost use Rattle.run_merge.specs.Cursors.{AreFrom, AreSound, AreThere, AreTold, cursors_of, head_tile, runs_of};
 ghost use Rattle.run_merge.specs.Objects.{objects_of};
 ghost use Rattle.run_merge.specs.Steps.{IfLeastOf, IsLeast, OnlyReads, Takes};
+ghost use Rattle.run_merge.specs.Winners.{AreWinners};
 
 use crate::cursor::{Cursor, Head, tile_of};
 use crate::least::least;
 use crate::merge_err::MergeErr;
 use crate::run_reader::RunReader;
 use crate::steps::{advance_at, load_at};
+use crate::tournament::winners_of;
 use feature_runs::{Group, RunItem};
 use std::alloc::Global;
 use tb_outside::{Lane, Spill};
@@ -45,7 +47,12 @@ pub fn gather<R, S: Spill>(
     ensures answer { IfNext (objects_of S.seen lanes.old spool.old) (objects_of S.seen lanes.new spool.new) part (record { layers = layers; readers = readers.old }) (record { layers = layers; readers = readers.new }) result }
     ensures sound { AreSound readers.new }
 {
-    let Some((number, head)) = least(readers) else {
+    let mut winners = match winners_of(alloc, readers) {
+        Ok(winners) => winners,
+        Err(_) => return Err(MergeErr::Memory),
+    };
+    let winners = winners.as_mut_slice();
+    let Some((number, head)) = least(readers, winners) else {
         return Ok(None);
     };
     let places = match places_of(alloc, readers) {
@@ -61,12 +68,30 @@ pub fn gather<R, S: Spill>(
         items: Seq::new(alloc),
         text: Vec::new(alloc),
     };
-    match take(&mut gathered, readers, number, head, layers, lanes, spool) {
+    match take(
+        &mut gathered,
+        readers,
+        winners,
+        number,
+        head,
+        layers,
+        lanes,
+        spool,
+    ) {
         Ok(()) => {}
         Err(e) => return Err(e),
     }
-    while let Some((number, head)) = least_of(readers, tile) {
-        match take(&mut gathered, readers, number, head, layers, lanes, spool) {
+    while let Some((number, head)) = least_of(readers, winners, tile) {
+        match take(
+            &mut gathered,
+            readers,
+            winners,
+            number,
+            head,
+            layers,
+            lanes,
+            spool,
+        ) {
             Ok(()) => {}
             Err(e) => return Err(e),
         }
@@ -84,12 +109,13 @@ pub fn gather<R, S: Spill>(
 }
 
 // The least item that is left, where it is of this tile.
-fn least_of(readers: &[RunReader], tile: u64) -> Option<(usize, Head)>
+fn least_of(readers: &[RunReader], winners: &[usize], tile: u64) -> Option<(usize, Head)>
     requires sound { AreSound readers.now }
+    requires winners { AreWinners (cursors_of readers.now) winners.now }
     requires from { AreFrom tile (cursors_of readers.now) }
     ensures { IfLeastOf tile (cursors_of readers.now) result }
 {
-    match least(readers) {
+    match least(readers, winners) {
         Some((number, head)) => {
             if tile_of(head) == tile {
                 Some((number, head))
@@ -105,6 +131,7 @@ fn least_of(readers: &[RunReader], tile: u64) -> Option<(usize, Head)>
 fn take<R, S: Spill>(
     gathered: &mut Gathered,
     readers: &mut [RunReader],
+    winners: &mut [usize],
     number: usize,
     head: Head,
     layers: u8,
@@ -112,9 +139,11 @@ fn take<R, S: Spill>(
     spool: &mut S,
 ) -> Result<(), MergeErr>
     requires least { IsLeast (cursors_of readers.old) number head }
+    requires winners { AreWinners (cursors_of readers.old) winners.old }
     requires sound { AreSound readers.old }
     requires there { AreThere (objects_of S.seen lanes.old spool.old) readers.old }
     requires told { AreTold (objects_of S.seen lanes.old spool.old) layers readers.old }
+    ensures winners { OnOk result (AreWinners (cursors_of readers.new) winners.new) }
     ensures takes { OnOk result (Takes (objects_of S.seen lanes.old spool.old) layers head readers.old readers.new gathered.old gathered.new) }
     ensures sound { AreSound readers.new }
     ensures reads { OnlyReads (objects_of S.seen lanes.old spool.old) (objects_of S.seen lanes.new spool.new) (runs_of (cursors_of readers.old)) result }
@@ -123,7 +152,7 @@ fn take<R, S: Spill>(
     gathered.bytes = sum;
     if group_need(sum) > gathered.part {
         gathered.items = Seq::new(gathered.alloc);
-        return advance_at(readers, number, head, layers, lanes, spool);
+        return advance_at(readers, winners, number, head, layers, lanes, spool);
     }
     gathered.text.clear();
     let loaded = load_at(
@@ -144,7 +173,7 @@ fn take<R, S: Spill>(
         Ok(()) => {}
         Err(_) => return Err(MergeErr::Memory),
     }
-    advance_at(readers, number, head, layers, lanes, spool)
+    advance_at(readers, winners, number, head, layers, lanes, spool)
 }
 
 // What the items of a tile need, by the sum of their lengths: 2^64 - 1 where it is more.

@@ -2,9 +2,9 @@
 //!
 //! At most 64 runs are read at once, each through 4,096 bytes. Where there are more, neighbours are first merged into runs of
 //! the spool, until 64 are left. Read `named_run` (whose spill a run stands in) and `cursor` (how far it is read), then
-//! `read_from`, `window` and `run_reader` (a run that is read item by item), `least` and `steps` (which item is next, of all
-//! runs), `gather` (the items of one tile), `middle` (runs of the spool), `opening` (which runs are merged into them), and last
-//! `merge`.
+//! `read_from`, `window` and `run_reader` (a run that is read item by item), `tournament`, `least` and `steps` (which item is next,
+//! of all runs), `gather` (the items of one tile), `middle` (runs of the spool), `opening` (which runs are merged into them), and
+//! last `merge`.
 #![tactic(auto)]
 
 mod cursor;
@@ -19,6 +19,7 @@ mod opening;
 mod read_from;
 mod run_reader;
 mod steps;
+mod tournament;
 mod window;
 mod worked;
 

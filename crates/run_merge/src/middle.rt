@@ -3,6 +3,7 @@ ghost use Rattle.feature_runs.specs.Appending.{HasBegun};
 ghost use Rattle.run_merge.specs.Cursors.{AreSound, AreThere, AreTold, cursors_of, left_of, runs_of};
 ghost use Rattle.run_merge.specs.Objects.{objects_of, Keeps};
 ghost use Rattle.run_merge.specs.Steps.{AppendsAll, IsLeast, IsMadeOf, PutsNext, Works, bytes_left};
+ghost use Rattle.run_merge.specs.Winners.{AreWinners};
 ghost use Rattle.run_merge.specs.declared.named_run.Store.TheVariants as stores;
 
 use crate::cursor::Head;
@@ -11,6 +12,7 @@ use crate::merge_err::MergeErr;
 use crate::named_run::{NamedRun, Store};
 use crate::run_reader::RunReader;
 use crate::steps::{advance_at, load_at};
+use crate::tournament::winners_of;
 use feature_runs::{RunAt, SpillErr};
 use std::alloc::Global;
 use tb_outside::{Lane, Spill};
@@ -69,15 +71,20 @@ fn append_all<R, S: Spill>(
     ensures keeps { Keeps (objects_of S.seen lanes.old spool.old) (objects_of S.seen lanes.new spool.new) }
     ensures works { Works (objects_of S.seen lanes.old spool.old) (objects_of S.seen lanes.new spool.new) (runs_of (cursors_of readers.old)) result }
 {
+    let mut winners = match winners_of(alloc, readers) {
+        Ok(winners) => winners,
+        Err(_) => return Err(MergeErr::Memory),
+    };
+    let winners = winners.as_mut_slice();
     let mut block = Vec::new(alloc);
     let mut appended: u64 = 0;
-    while let Some((number, head)) = least(readers) {
+    while let Some((number, head)) = least(readers, winners) {
         appended = match appended.checked_add(head.len) {
             Some(sum) => sum,
             None => return Err(MergeErr::Memory),
         };
         match put_next(
-            alloc, readers, number, head, layers, &mut block, lanes, spool,
+            alloc, readers, winners, number, head, layers, &mut block, lanes, spool,
         ) {
             Ok(()) => {}
             Err(e) => return Err(e),
@@ -94,6 +101,7 @@ fn append_all<R, S: Spill>(
 fn put_next<R, S: Spill>(
     alloc: Global,
     readers: &mut [RunReader],
+    winners: &mut [usize],
     number: usize,
     head: Head,
     layers: u8,
@@ -102,10 +110,12 @@ fn put_next<R, S: Spill>(
     spool: &mut S,
 ) -> Result<(), MergeErr>
     requires least { IsLeast (cursors_of readers.old) number head }
+    requires winners { AreWinners (cursors_of readers.old) winners.old }
     requires sound { AreSound readers.old }
     requires there { AreThere (objects_of S.seen lanes.old spool.old) readers.old }
     requires told { AreTold (objects_of S.seen lanes.old spool.old) layers readers.old }
     requires begun { HasBegun (S.seen spool.old) }
+    ensures winners { OnOk result (AreWinners (cursors_of readers.new) winners.new) }
     ensures puts { OnOk result (PutsNext (objects_of S.seen lanes.old spool.old) (objects_of S.seen lanes.new spool.new) layers head readers.old readers.new block.old.items block.new.items) }
     ensures sound { AreSound readers.new }
     ensures keeps { Keeps (objects_of S.seen lanes.old spool.old) (objects_of S.seen lanes.new spool.new) }
@@ -115,7 +125,7 @@ fn put_next<R, S: Spill>(
         Ok(_) => {}
         Err(e) => return Err(e),
     }
-    match advance_at(readers, number, head, layers, lanes, spool) {
+    match advance_at(readers, winners, number, head, layers, lanes, spool) {
         Ok(()) => {}
         Err(e) => return Err(e),
     }

@@ -85,15 +85,16 @@ pub fn merge_some<R, S: Spill>(
     let mut merged = Vec::new(alloc);
     let mut rest = waiting;
     while !rest.is_empty() {
+        match merged.reserve(1) {
+            Ok(()) => {}
+            Err(_) => return Err(MergeErr::Memory),
+        }
         let (now, later) = rest.split_at(at_once(merged.len(), rest.len()));
         let one = match as_one(alloc, now, layers, lanes, spool) {
             Ok(one) => one,
             Err(e) => return Err(e),
         };
-        match merged.push(one) {
-            Ok(()) => {}
-            Err(_) => return Err(MergeErr::Memory),
-        }
+        merged.push_reserved(one);
         rest = later;
     }
     Ok(merged)

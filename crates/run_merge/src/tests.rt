@@ -223,6 +223,30 @@ fn changed_bytes_of_a_lane_are_outside(rt: HostRuntime) -> Result<(), Memory> {
     Ok(())
 }
 
+/// The second item's layer is none of the profile's, and no item is read beyond its head.
+#[test]
+fn layers_are_tested_where_nothing_is_kept(rt: HostRuntime) -> Result<(), Memory> {
+    let alloc = rt.alloc();
+    let lie = Lie {
+        run: 0,
+        at: 45,
+        byte: 1,
+    };
+    let runs: [&[(u32, u32, u8)]; 1] = [&[(1, 0, 1), (1, 1, 2)]];
+    let lane = lane_of(alloc, &runs, lie)?;
+    let lists = [list_of(alloc, &lane)?];
+    let mut lanes = [lane];
+    let mut spool = Quiet::new(alloc, NEVER, NO_LIE);
+    let ran = run(alloc, &mut lanes, &lists, &mut spool, &[0; 1])?;
+    let error = MergeErr::Outside {
+        whom: Whom::Lane(0),
+        run: 0,
+        at: 37,
+    };
+    assert!(rt; is_refused(&ran, error));
+    Ok(())
+}
+
 /// The same of runs of the spool, of the first and of the second level.
 #[test]
 fn changed_bytes_of_a_middle_run_are_outside(rt: HostRuntime) -> Result<(), Memory> {

@@ -20,6 +20,7 @@ loop-number-init g c =
     let none : c.new.result ≡ [] = search rules in
     record {
       objects = c.in-Ok-take.ensures.reads;
+      winners = c.in-Ok-take.ensures.winners;
       so_far = first_taken o c.args.layers c.args.part c.tile_of-tile.result c.in-Some.number c.in-Some.head c.args.readers.now c.take.new.readers _ c.take.new.gathered c.requires.sound c.requires.told c.in-Some.ensures c.tile_of-tile.ensures refl refl refl none c.in-Ok-take.ensures.takes c.take.ensures.sound;
     }
 
@@ -51,6 +52,7 @@ loop-number-preserved g c =
     let takes = subst (λ (ob : Objects g.row.R.Denot). Takes ob c.args.layers head now after c.loop-number.gathered c.take-in-Some-least_of.new.gathered) inv.objects c.in-Ok-take-2.ensures.takes in
     record {
       objects = c.in-Ok-take-2.ensures.reads ∙ inv.objects;
+      winners = c.in-Ok-take-2.ensures.winners;
       so_far = one_taken 1 o c.args.layers c.args.part c.tile_of-tile.result c.in-Some-least_of.number head c.args.readers.now now after c.loop-number.gathered c.take-in-Some-least_of.new.gathered inv.so_far c.in-Some-least_of.ensures.0 c.in-Some-least_of.ensures.1 takes c.take-in-Some-least_of.ensures.sound;
     }
 
@@ -62,7 +64,7 @@ returns-then-need-part-clause-answer g c =
     let before = c.args.readers.now in
     let now = c.loop-number.readers in
     let after = c.put_back.new.readers in
-    let same : cursors_of after ≡ cursors_of before = c.put_back.ensures.cursors ∙ c.deref.ensures.value ∙ c.in-Ok.ensures in
+    let same : cursors_of after ≡ cursors_of before = c.put_back.ensures.cursors ∙ c.deref.ensures.value ∙ c.in-Ok-places_of.ensures in
     let back = put_back_is o c.args.layers before now after same c.put_back.ensures.windows inv.so_far.runs c.requires.sound c.requires.told inv.so_far.sound inv.so_far.told_are in
     let need : c.group_need-need.result ≡ group_need c.loop-number.gathered.bytes = c.group_need-need.ensures in
     let above : c.args.part < group_need c.loop-number.gathered.bytes = omega (arith, c.if-need-part.true, need) in (
@@ -79,7 +81,7 @@ returns-then-need-part-clause-sound g c =
     let before = c.args.readers.now in
     let now = c.loop-number.readers in
     let after = c.put_back.new.readers in
-    let same : cursors_of after ≡ cursors_of before = c.put_back.ensures.cursors ∙ c.deref.ensures.value ∙ c.in-Ok.ensures in
+    let same : cursors_of after ≡ cursors_of before = c.put_back.ensures.cursors ∙ c.deref.ensures.value ∙ c.in-Ok-places_of.ensures in
     (put_back_is o c.args.layers before now after same c.put_back.ensures.windows inv.so_far.runs c.requires.sound c.requires.told inv.so_far.sound inv.so_far.told_are).0
 
 pub returns-clause-answer : goal.returns-clause-answer

@@ -50,15 +50,15 @@ loop-rest-preserved g c =
     let n = c.at_once.result in
     let chunk = c.split_at.result.0.now in
     let merged = c.loop-rest.merged.items in
-    let one = c.in-Ok.one in
-    let items : c.push.new.self.items ≡ merged ++ one ∷ [] = search rules in
+    let one = c.in-Ok-as_one.one in
+    let items : c.push_reserved.new.self.items ≡ merged ++ one ∷ [] = search rules in
     let readable = subst (AreReadable o layers) (sym c.split_at.ensures.front) (part_readable o layers waiting done rest n inv.parts.1 c.requires.readable) in
-    let all = have_more o now next layers inv.keeps c.as_one.ensures.keeps done merged chunk one inv.parts.2 readable c.in-Ok.ensures.made c.in-Ok.ensures.name in
-    let pushed : length c.push.new.self.items ≡ length merged + 1 = ap length items ∙ length-append merged (one ∷ []) in
+    let all = have_more o now next layers inv.keeps c.as_one.ensures.keeps done merged chunk one inv.parts.2 readable c.in-Ok-as_one.ensures.made c.in-Ok-as_one.ensures.name in
+    let pushed : length c.push_reserved.new.self.items ≡ length merged + 1 = ap length items ∙ length-append merged (one ∷ []) in
     let left : length c.split_at.result.1.now ≡ length rest - n = ap length c.split_at.ensures.back ∙ length-drop n rest in
     record {
       keeps = keeps_trans o now next inv.keeps c.as_one.ensures.keeps;
-      counts = none_trans o now next inv.counts c.in-Ok.ensures.works;
+      counts = none_trans o now next inv.counts c.in-Ok-as_one.ensures.works;
       parts = (
         done ++ chunk,
         part_parts waiting done rest chunk c.split_at.result.1.now n inv.parts.1 c.split_at.ensures.front c.split_at.ensures.back,
@@ -73,8 +73,8 @@ loop-rest-preserved g c =
       ];
     }
 
-pub returns-in-Err-clause-works : goal.returns-in-Err-clause-works
-returns-in-Err-clause-works g c =
+pub returns-in-Err-as_one-clause-works : goal.returns-in-Err-as_one-clause-works
+returns-in-Err-as_one-clause-works g c =
     let seen = g.S.Spill.seen in
     let o = objects_of seen c.args.lanes.now c.args.spool.now in
     let now = objects_of seen c.loop-rest.lanes c.loop-rest.spool in
@@ -82,31 +82,15 @@ returns-in-Err-clause-works g c =
     let inv = c.loop-rest.invariant in
     let waiting = c.args.waiting.now in
     let names = subst (λ (l : List NamedRun). All (IsOneOf waiting) l) (sym c.split_at.ensures.front) (part_named waiting inv.parts.0 c.loop-rest.rest.now c.at_once.result inv.parts.1) in
-    stops_after o now next waiting c.in-Err.e inv.counts inv.keeps (stops_wider now next c.split_at.result.0.now waiting c.in-Err.e names c.in-Err.ensures.works)
+    stops_after o now next waiting c.in-Err-as_one.e inv.counts inv.keeps (stops_wider now next c.split_at.result.0.now waiting c.in-Err-as_one.e names c.in-Err-as_one.ensures.works)
 
-pub returns-in-Err-clause-keeps : goal.returns-in-Err-clause-keeps
-returns-in-Err-clause-keeps g c =
+pub returns-in-Err-as_one-clause-keeps : goal.returns-in-Err-as_one-clause-keeps
+returns-in-Err-as_one-clause-keeps g c =
     let seen = g.S.Spill.seen in
     let o = objects_of seen c.args.lanes.now c.args.spool.now in
     let now = objects_of seen c.loop-rest.lanes c.loop-rest.spool in
     let next = objects_of seen c.as_one.new.lanes c.as_one.new.spool in
     keeps_trans o now next c.loop-rest.invariant.keeps c.as_one.ensures.keeps
-
-pub returns-in-Err-push-clause-keeps : goal.returns-in-Err-push-clause-keeps
-returns-in-Err-push-clause-keeps g c =
-    let seen = g.S.Spill.seen in
-    let o = objects_of seen c.args.lanes.now c.args.spool.now in
-    let now = objects_of seen c.loop-rest.lanes c.loop-rest.spool in
-    let next = objects_of seen c.as_one.new.lanes c.as_one.new.spool in
-    keeps_trans o now next c.loop-rest.invariant.keeps c.as_one.ensures.keeps
-
-pub returns-in-Err-push-clause-works : goal.returns-in-Err-push-clause-works
-returns-in-Err-push-clause-works g c =
-    let seen = g.S.Spill.seen in
-    let o = objects_of seen c.args.lanes.now c.args.spool.now in
-    let now = objects_of seen c.loop-rest.lanes c.loop-rest.spool in
-    let next = objects_of seen c.as_one.new.lanes c.as_one.new.spool in
-    none_trans o now next c.loop-rest.invariant.counts c.in-Ok.ensures.works
 
 pub returns-clause-all : goal.returns-clause-all
 returns-clause-all g c =
