@@ -18,11 +18,11 @@ text-append xs ys = ap concat (map-append (λ p. p.now) xs ys) ∙ concat-append
 text-next : (pieces : List (Bor (List ℕ))) (i : ℕ) (d : Bor (List ℕ)) → i < length pieces → text_of (take (i + 1) pieces) ≡ text_of (take i pieces) ++ (get_or pieces i d).now
 text-next pieces i d h = ap text_of (take_more pieces i d h) ∙ (text-append (take i pieces) (get_or pieces i d ∷ []) ∙ ap (λ last. text_of (take i pieces) ++ last) (append-nil (get_or pieces i d).now))
 
-more-twice : (o : Option (List ℕ)) (a b : List ℕ) → with_more (with_more o a) b ≡ with_more o (a ++ b)
+pub more-twice : (o : Option (List ℕ)) (a b : List ℕ) → with_more (with_more o a) b ≡ with_more o (a ++ b)
 more-twice None a b = refl
 more-twice (Some bytes) a b = ap Some (append_assoc bytes a b)
 
-more-nothing : (o : Option (List ℕ)) → o ≡ with_more o []
+pub more-nothing : (o : Option (List ℕ)) → o ≡ with_more o []
 more-nothing None = refl
 more-nothing (Some bytes) = ap Some (sym (append-nil bytes))
 
@@ -56,7 +56,7 @@ text-parts : (pieces : List (Bor (List ℕ))) (i : ℕ) (d : Bor (List ℕ)) →
 text-parts pieces i d h =
     ap text_of (sym (take-append-drop i pieces)) ∙ (text-append (take i pieces) (drop i pieces) ∙ ap (λ later. text_of (take i pieces) ++ text_of later) (drop_more pieces i d h))
 
-prefix-of : (o mid new : Option (List ℕ)) (a piece later whole : List ℕ) → mid ≡ with_more o a → whole ≡ a ++ (piece ++ later) → GrowsByPrefix mid new piece → GrowsByPrefix o new whole
+pub prefix-of : (o mid new : Option (List ℕ)) (a piece later whole : List ℕ) → mid ≡ with_more o a → whole ≡ a ++ (piece ++ later) → GrowsByPrefix mid new piece → GrowsByPrefix o new whole
 prefix-of o mid new a piece later whole is parts g = (
   a ++ g.0,
   g.1 ++ later,

@@ -1,4 +1,5 @@
 pub mod Appending
+pub mod Generating
 pub mod Looking
 pub mod Numerals
 pub mod Statuses

@@ -13,10 +13,13 @@ use Rattle.tile_model.specs.Due.{Due, due_in}
 use Rattle.tile_model.specs.Due as builds
 use Rattle.build_cli.specs.Told.{due_of}
 use Rattle.build_one.specs.Answers.{BuildAnswers, OnBuilt, IfTold}
-use Rattle.build_cli.specs.Command.{Command, build, check, show, source_of}
-use Rattle.build_cli.specs.Ended.{Ended, build_ended, look_ended}
+use Rattle.build_cli.specs.Command.{Command, build, check, show, generate, source_of}
+use Rattle.build_cli.specs.Ended.{build_ended, look_ended, generate_ended}
 use Rattle.build_cli.specs.Answers.{Tells, AnswersLook, AnswersCommand, due_of_command, IsWritten}
 use Rattle.build_cli.specs.Status.{done, status_of}
+use Rattle.build_cli.specs.declared.generate.Generated.{Generated}
+use Rattle.build_cli.specs.declared.generate.GenErr.{GenErr}
+use Rattle.build_cli.specs.declared.generate.GenErr.TheVariants as gen_errors
 use Rattle.build_cli.specs.declared.status.Refusal.TheVariants.{Words, Stopped}
 
 never_done : (stop : Stop) → status_of (Stopped stop) ≡ 0 → ⊥
@@ -50,6 +53,7 @@ done_written None before after console new_console answer h is = if_told before.
 done_written (Some (build rules extract archive)) before after console new_console answer h is = written (source_of rules) before after console new_console answer h.result h.told h.built is
 done_written (Some (check archive)) before after console new_console answer h is = if_told before.spool.runs _ tt
 done_written (Some (show archive tile)) before after console new_console answer h is = if_told before.spool.runs _ tt
+done_written (Some (generate seed count extract)) before after console new_console answer h is = if_told before.spool.runs _ tt
 
 done_is_understood : (text : List ℕ) (console new_console : SinkSeen) (answer : ℕ) → Tells (Ok text) console new_console answer → answer ≡ 2 → ⊥
 done_is_understood text console new_console answer (inl t) is = let zero : answer ≡ 0 = t.0 in omega arith
@@ -65,6 +69,11 @@ look_understood console new_console answer (Err errors.Failed) told is = let sev
 look_understood console new_console answer (Err (errors.Bad fault)) told is = let eleven : answer ≡ 11 = told.0 in omega arith
 look_understood console new_console answer (Err errors.Memory) told is = let ten : answer ≡ 10 = told.0 in omega arith
 
+generate_understood : (console new_console : SinkSeen) (answer : ℕ) (result : Result Generated GenErr) → Tells (generate_ended result) console new_console answer → answer ≡ 2 → ⊥
+generate_understood console new_console answer (Ok totals) told is = done_is_understood _ console new_console answer told is
+generate_understood console new_console answer (Err gen_errors.Sink) told is = let nine : answer ≡ 9 = told.0 in omega arith
+generate_understood console new_console answer (Err gen_errors.Memory) told is = let ten : answer ≡ 10 = told.0 in omega arith
+
 is_looking : (text : List ℕ → List ℕ) (before after : Objects) (console new_console : SinkSeen) (answer : ℕ) → AnswersLook text before after console new_console answer → answer ≡ 2 → ⊥
 is_looking text before after console new_console answer h is = look_understood console new_console answer h.result h.told is
 
@@ -74,6 +83,8 @@ only_words (Some (build rules extract archive)) before after console new_console
     (λ is. absurd (understood console new_console answer h.result h.told is), λ none. absurd cc)
 only_words (Some (check archive)) before after console new_console answer h = (λ is. absurd (is_looking _ before after console new_console answer h is), λ none. absurd cc)
 only_words (Some (show archive tile)) before after console new_console answer h = (λ is. absurd (is_looking _ before after console new_console answer h is), λ none. absurd cc)
+only_words (Some (generate seed count extract)) before after console new_console answer h =
+    (λ is. absurd (generate_understood console new_console answer h.result h.told is), λ none. absurd cc)
 
 -- the same in the words of objects that tell
 told_by : (runs : Option Runs) (told : Runs) (P : Type 0) → runs ≡ Some told → IfTold runs P → P
@@ -97,6 +108,7 @@ told_grown (Some (build rules extract archive)) before after profile reader old 
     grown (builds.due_of (source_of rules) (Some profile) (Some reader)) before after told old new (subst (λ (o : Option Due). IsWritten o before after) same h) runs was is
 told_grown (Some (check archive)) before after profile reader old new told p r runs h was is = tt
 told_grown (Some (show archive tile)) before after profile reader old new told p r runs h was is = tt
+told_grown (Some (generate seed count extract)) before after profile reader old new told p r runs h was is = tt
 
 -- both of an answer
 pub told_done : (command : Option Command) (before after : Objects) (console new_console : SinkSeen) (answer : ℕ) (profile reader old new : List ℕ) (told : Runs) → AnswersCommand command before after console new_console answer → answer ≡ done

@@ -1,6 +1,11 @@
 -- Words whose number no command has.
-use Rattle.std.proofs.Common.{◌≡◌, ℕ, ◌<◌, ◌≤◌, Option, None, List, [], ◌∷◌, length, map, refl, arith}
-use Rattle.build_cli.specs.Command.{Command, command_of}
+use Rattle.std.proofs.Common.{◌≡◌, ℕ, ◌<◌, ◌≤◌, None, List, [], ◌∷◌, length, map, refl, arith}
+use Rattle.build_cli.specs.Command.{command_of}
+
+pub one-word : {A : Type 0} (f : A → List ℕ) (words : List A) → 1 ≤ length words → length words < 2 → command_of (map f words) ≡ None
+one-word f [] least below = refl
+one-word f (a ∷ []) least below = refl
+one-word f (a ∷ b ∷ words) least below = absurd (omega arith)
 
 pub three-words : {A : Type 0} (f : A → List ℕ) (words : List A) → 3 ≤ length words → length words < 4 → command_of (map f words) ≡ None
 three-words f [] least below = refl

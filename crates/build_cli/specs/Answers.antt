@@ -1,5 +1,6 @@
 -- What a command's answer says, whatever number of lanes works on it.
 use Rattle.std.specs.Prelude.{◌≡◌, ◌⊎◌, ◌↔◌, ℕ, ◌≤◌, Option, None, Some, IfSome, Result, Ok, Err, List, [], ◌∷◌}
+use Rattle.std.specs.List.{concat}
 use Rattle.tb_types.specs.Counts.{Rose}
 use Rattle.tb_outside.specs.Source.{SourceSeen}
 use Rattle.tb_outside.specs.Sink.{SinkSeen, with_more, GrowsByPrefix}
@@ -14,10 +15,15 @@ use Rattle.tile_model.specs.Objects.{Objects}
 use Rattle.tile_model.specs.Due.{Due, due_in}
 use Rattle.tile_model.specs.From.{IsAlone}
 use Rattle.build_one.specs.Answers.{BuildAnswers, OnBuilt, IfTold}
-use Rattle.build_cli.specs.Command.{Command, build, check, show, command_of, source_of}
-use Rattle.build_cli.specs.Ended.{Ended, build_ended, look_ended}
+use Rattle.gen_world.specs.Frames.{frames_of}
+use Rattle.build_cli.specs.Command.{Command, build, check, show, generate, command_of, source_of}
+use Rattle.build_cli.specs.Ended.{Ended, build_ended, look_ended, generate_ended}
+use Rattle.build_cli.specs.Extract.{totals_of}
 use Rattle.build_cli.specs.Line.{line_of}
 use Rattle.build_cli.specs.Status.{done, sink_failed, status_of}
+use Rattle.build_cli.specs.declared.generate.Generated.{Generated}
+use Rattle.build_cli.specs.declared.generate.GenErr.{GenErr}
+use Rattle.build_cli.specs.declared.generate.GenErr.TheVariants as gen_errors
 use Rattle.build_cli.specs.declared.status.Refusal.TheVariants.{Words}
 
 -- the console has a line more, or a prefix of it where its count rose; its count never falls
@@ -25,12 +31,12 @@ pub record HasLine (old new : SinkSeen) (line : List ℕ) : Type 0 where
   pub told : (new.bytes ≡ with_more old.bytes line) ⊎ (Rose old.faults new.faults × GrowsByPrefix old.bytes new.bytes line)
   pub never_falls : old.faults ≤ new.faults
 
--- the console has a text more
+-- a sink has a text more
 pub record HasWholeText (old new : SinkSeen) (text : List ℕ) : Type 0 where
   pub told : new.bytes ≡ with_more old.bytes text
   pub faults : new.faults ≡ old.faults
 
--- the console failed with a prefix of the text
+-- a sink failed with a prefix of the text
 pub record LacksText (old new : SinkSeen) (text : List ℕ) : Type 0 where
   pub told : GrowsByPrefix old.bytes new.bytes text
   pub rose : Rose old.faults new.faults
@@ -61,6 +67,19 @@ pub record AnswersLook (text : List ℕ → List ℕ) (before after : Objects) (
   pub unused : after ≡ record before { readers = after.readers }
   pub told : Tells (look_ended result) console new_console answer
 
+-- The sink has all frames more, and the totals are theirs. Where the sink failed, or memory wants, it has a prefix of them more.
+abbrev pub GenerateAnswers : List (List ℕ) → SinkSeen → SinkSeen → Result Generated GenErr → Type 0
+GenerateAnswers frames old new (Ok totals) = (totals ≡ totals_of frames) × HasWholeText old new (concat frames)
+GenerateAnswers frames old new (Err gen_errors.Sink) = LacksText old new (concat frames)
+GenerateAnswers frames old new (Err gen_errors.Memory) = GrowsByPrefix old.bytes new.bytes (concat frames) × (new.faults ≡ old.faults)
+
+-- an extract was generated, status and console tell of it, and all but the archive's sink is as it was
+pub record AnswersGenerate (seed count : ℕ) (before after : Objects) (console new_console : SinkSeen) (answer : ℕ) : Type 0 where
+  pub result : Result Generated GenErr
+  pub generated : GenerateAnswers (frames_of seed count) before.archive after.archive result
+  pub unused : after ≡ record before { archive = after.archive }
+  pub told : Tells (generate_ended result) console new_console answer
+
 -- the words are no command: nothing but the console is touched
 pub record AnswersWords (before after : Objects) (console new_console : SinkSeen) (answer : ℕ) : Type 0 where
   pub status : answer ≡ status_of Words
@@ -72,14 +91,16 @@ AnswersCommand None before after console new_console answer = AnswersWords befor
 AnswersCommand (Some (build rules extract archive)) before after console new_console answer = AnswersBuild (source_of rules) before after console new_console answer
 AnswersCommand (Some (check archive)) before after console new_console answer = AnswersLook check_text before after console new_console answer
 AnswersCommand (Some (show archive tile)) before after console new_console answer = AnswersLook (show_text tile) before after console new_console answer
+AnswersCommand (Some (generate seed count extract)) before after console new_console answer = AnswersGenerate seed count before after console new_console answer
 
--- What a command that leaves them alone doesn't touch, also where objects don't tell what they hold: the profile's source, and the spool with
--- the archive's sink.
-abbrev pub Leaves : Option Command → Type 0 → Type 0 → Type 0
-Leaves None profile outputs = profile × outputs
-Leaves (Some (build rules extract archive)) profile outputs = IsAlone (source_of rules) → profile
-Leaves (Some (check archive)) profile outputs = profile × outputs
-Leaves (Some (show archive tile)) profile outputs = profile × outputs
+-- What a command that leaves them alone doesn't touch, also where objects don't tell what they hold: the profile's source, the reader, the
+-- spool, and the archive's sink.
+abbrev pub Leaves : Option Command → Type 0 → Type 0 → Type 0 → Type 0 → Type 0
+Leaves None profile reader spool archive = profile × reader × spool × archive
+Leaves (Some (build rules extract output)) profile reader spool archive = IsAlone (source_of rules) → profile
+Leaves (Some (check input)) profile reader spool archive = profile × spool × archive
+Leaves (Some (show input tile)) profile reader spool archive = profile × spool × archive
+Leaves (Some (generate seed count output)) profile reader spool archive = profile × reader × spool
 
 -- The promise of a top call.
 abbrev pub Answers : List (List ℕ) → Objects → Objects → SinkSeen → SinkSeen → ℕ → Type 0
@@ -91,6 +112,7 @@ due_of_command None before = None
 due_of_command (Some (build rules extract archive)) before = due_in (source_of rules) before
 due_of_command (Some (check archive)) before = None
 due_of_command (Some (show archive tile)) before = None
+due_of_command (Some (generate seed count extract)) before = None
 
 -- an archive is due, and stands behind what the archive's sink had, where the spool tells its runs
 abbrev pub IsWritten : Option Due → Objects → Objects → Type 0

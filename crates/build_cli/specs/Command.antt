@@ -1,17 +1,18 @@
 -- What the words of a command line ask for.
-use Rattle.std.specs.Prelude.{ℕ, ◌<◌, Bool, ◌==◌, ◌&&◌, not, nat_eq, Option, None, Some, List, [], ◌∷◌, length, codes, if◌then◌else◌}
-use Rattle.std.specs.Option.{option_map}
+use Rattle.std.specs.Prelude.{ℕ, ◌<◌, ◌≤◌, Bool, ◌==◌, ◌&&◌, not, nat_eq, Option, None, Some, List, [], ◌∷◌, length, codes, if◌then◌else◌}
+use Rattle.std.specs.Option.{option_map, option_and_then}
 use Rattle.std.specs.List.{starts_with}
 use Rattle.std.specs.Str.{bytes_eq}
 use Rattle.tb_types.specs.declared.tile.TileXyz.{TileXyz}
 use Rattle.hilbert_ids.specs.Ids.{IsTile}
 use Rattle.tile_model.specs.declared.from.ProfileFrom.{ProfileFrom}
 use Rattle.tile_model.specs.declared.from.ProfileFrom.TheVariants as profiles
-use Rattle.build_cli.specs.Numbers.{tile_of}
+use Rattle.build_cli.specs.Numbers.{seed_of, count_of, tile_of}
 use Rattle.build_cli.specs.declared.command.Command as declared
 use Rattle.build_cli.specs.declared.command.Command.TheVariants as commands
 use Rattle.build_cli.specs.declared.command.Rules as declared_rules
 use Rattle.build_cli.specs.declared.command.Rules.TheVariants as rules
+use Rattle.build_cli.specs.declared.number.TheConstants.{FEWEST, MOST}
 
 -- where the rules of a build come from: one rule for a key, or the profile in a file
 pub data Rules : Type 0 where
@@ -25,6 +26,8 @@ pub data Command : Type 0 where
   check : List ℕ → Command
   -- tell what a tile of an archive holds
   show : List ℕ → TileXyz → Command
+  -- generate the extract of a seed and a number of elements
+  generate : ℕ → ℕ → List ℕ → Command
 
 -- a word that is an argument: not empty, and no option
 abbrev pub is_argument : List ℕ → Bool
@@ -42,6 +45,12 @@ abbrev pub build_of : List ℕ → List ℕ → List ℕ → List ℕ → Option
 build_of name first extract archive =
     if is_argument first && is_argument extract && is_argument archive then option_map (λ rules. build rules extract archive) (rules_of name first) else None
 
+abbrev pub generate_of : List ℕ → List ℕ → List ℕ → Option Command
+generate_of seed count extract = if is_argument extract then option_and_then (λ s. option_map (λ n. generate s n extract) (count_of count)) (seed_of seed) else None
+
+abbrev pub four_of : List ℕ → List ℕ → List ℕ → List ℕ → Option Command
+four_of name first second third = if bytes_eq name (codes "gen") then generate_of first second third else build_of name first second third
+
 abbrev pub show_of : List ℕ → List ℕ → List ℕ → List ℕ → List ℕ → Option Command
 show_of name archive zoom column row = if bytes_eq name (codes "show") && is_argument archive then option_map (show archive) (tile_of zoom column row) else None
 
@@ -51,7 +60,7 @@ command_of [] = None
 command_of (name ∷ []) = None
 command_of (name ∷ archive ∷ []) = check_of name archive
 command_of (name ∷ first ∷ second ∷ []) = None
-command_of (name ∷ first ∷ extract ∷ archive ∷ []) = build_of name first extract archive
+command_of (name ∷ first ∷ second ∷ third ∷ []) = four_of name first second third
 command_of (name ∷ archive ∷ zoom ∷ column ∷ row ∷ []) = show_of name archive zoom column row
 command_of (name ∷ first ∷ second ∷ third ∷ fourth ∷ fifth ∷ words) = None
 
@@ -64,6 +73,7 @@ abbrev pub seen_command : declared.Command → Command
 seen_command (commands.Build rules extract archive) = build (seen_rules rules) extract.now archive.now
 seen_command (commands.Check archive) = check archive.now
 seen_command (commands.Show archive tile) = show archive.now tile
+seen_command (commands.Generate seed count extract) = generate seed count extract.now
 
 -- where the profile of a build comes from
 abbrev pub source_of : Rules → ProfileFrom
@@ -75,8 +85,9 @@ abbrev pub IsKeyed : Rules → Type 0
 IsKeyed (by_key key) = 0 < length key
 IsKeyed (by_profile name) = Unit {0}
 
--- the values of a command are as it needs them: a key isn't empty, a tile lies within its zoom
+-- the values of a command are as it needs them: a key isn't empty, a tile lies within its zoom, and an extract has as many elements as it may
 abbrev pub HasGoodValues : Command → Type 0
 HasGoodValues (build rules extract archive) = IsKeyed rules
 HasGoodValues (check archive) = Unit {0}
 HasGoodValues (show archive tile) = IsTile tile
+HasGoodValues (generate seed count extract) = (FEWEST ≤ count) × (count ≤ MOST)

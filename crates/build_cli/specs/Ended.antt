@@ -9,6 +9,10 @@ use Rattle.tile_model.specs.declared.stop.Stop.TheVariants as stops
 use Rattle.build_cli.specs.declared.status.Refusal.{Refusal}
 use Rattle.build_cli.specs.declared.status.Refusal.TheVariants.{Stopped, Faulty}
 use Rattle.build_cli.specs.Line.{success_line}
+use Rattle.build_cli.specs.Extract.{generated_line}
+use Rattle.build_cli.specs.declared.generate.Generated.{Generated}
+use Rattle.build_cli.specs.declared.generate.GenErr.{GenErr}
+use Rattle.build_cli.specs.declared.generate.GenErr.TheVariants as gen_errors
 
 abbrev pub Ended : Type 0
 Ended = Result (List ℕ) Refusal
@@ -27,3 +31,9 @@ refusal_of errors.Memory = Stopped stops.Memory
 abbrev pub look_ended : Result (List ℕ) ReadErr → Ended
 look_ended (Ok text) = Ok text
 look_ended (Err e) = Err (refusal_of e)
+
+-- a generated extract
+abbrev pub generate_ended : Result Generated GenErr → Ended
+generate_ended (Ok totals) = Ok (generated_line totals)
+generate_ended (Err gen_errors.Sink) = Err (Stopped stops.Sink)
+generate_ended (Err gen_errors.Memory) = Err (Stopped stops.Memory)

@@ -1,6 +1,8 @@
 pub mod Answers
 pub mod Command
 pub mod Ended
+pub mod Extract
+pub mod Generated
 pub mod Line
 pub mod Looks
 pub mod Names

@@ -1,6 +1,6 @@
 -- The names of a command's files.
 use Rattle.std.specs.Prelude.{ℕ, List, [], ◌∷◌}
-use Rattle.build_cli.specs.Command.{Command, Rules, build, check, show, by_key, by_profile}
+use Rattle.build_cli.specs.Command.{Command, Rules, build, check, show, generate, by_key, by_profile}
 use Rattle.build_cli.specs.declared.names.Names.{Names}
 
 -- the name of the file of the rules, if they are in one
@@ -13,3 +13,4 @@ abbrev pub names_of : Command → Names
 names_of (build rules extract archive) = record { profile = profile_name rules; readers = extract ∷ []; output = archive }
 names_of (check archive) = record { profile = []; readers = archive ∷ []; output = [] }
 names_of (show archive tile) = record { profile = []; readers = archive ∷ []; output = [] }
+names_of (generate seed count extract) = record { profile = []; readers = [] ∷ []; output = extract }

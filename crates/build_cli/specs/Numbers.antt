@@ -5,6 +5,7 @@ use Rattle.std.specs.Str.{bytes_eq}
 use Rattle.std.specs.Str.Parse.{digits_value}
 use Rattle.tb_types.specs.declared.tile.TileXyz.{TileXyz}
 use Rattle.hilbert_ids.specs.Ids.{last_zoom}
+use Rattle.build_cli.specs.declared.number.TheConstants.{FEWEST, MOST}
 
 -- the number of a word's digits, where they are digits
 abbrev pub value_of : List ℕ → ℕ
@@ -17,6 +18,13 @@ is_number word = bytes_eq (decimal (value_of word)) word
 -- the number that a word is, if it is no more than this
 abbrev pub number_of : List ℕ → ℕ → Option ℕ
 number_of word most = if is_number word && nat_le (value_of word) most then Some (value_of word) else None
+
+-- the seed of an extract, and how many elements it has
+abbrev pub seed_of : List ℕ → Option ℕ
+seed_of word = number_of word (2 ^ 64 - 1)
+
+abbrev pub count_of : List ℕ → Option ℕ
+count_of word = option_and_then (λ n. if nat_le FEWEST n then Some n else None) (number_of word MOST)
 
 -- the tile of a zoom, a column and a row
 abbrev pub tile_of : List ℕ → List ℕ → List ℕ → Option TileXyz

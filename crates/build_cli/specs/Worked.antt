@@ -1,6 +1,6 @@
 -- Worked words, and what they ask for.
-use Rattle.std.specs.Prelude.{◌≡◌, Option, None, Some, List, [], ◌∷◌, codes}
-use Rattle.build_cli.specs.Command.{check, show, command_of}
+use Rattle.std.specs.Prelude.{◌≡◌, None, Some, [], ◌∷◌, codes}
+use Rattle.build_cli.specs.Command.{check, show, generate, command_of}
 
 pub record WorkedWords : Type 0 where
   pub all : command_of (codes "check" ∷ codes "a" ∷ []) ≡ Some (check (codes "a"))
@@ -18,3 +18,14 @@ pub record WorkedWords : Type 0 where
   pub no_archive : command_of (codes "check" ∷ [] ∷ []) ≡ None
   pub option : command_of (codes "check" ∷ codes "--all" ∷ []) ≡ None
   pub few : command_of (codes "show" ∷ codes "a" ∷ codes "0" ∷ codes "0" ∷ []) ≡ None
+  -- the least and the most of a seed and of a number of elements, and one past each
+  pub least_extract : command_of (codes "gen" ∷ codes "0" ∷ codes "100" ∷ codes "e" ∷ []) ≡ Some (generate 0 100 (codes "e"))
+  pub most_extract : command_of (codes "gen" ∷ codes "18446744073709551615" ∷ codes "10000000" ∷ codes "e" ∷ []) ≡ Some (generate 18446744073709551615 10000000 (codes "e"))
+  pub few_elements : command_of (codes "gen" ∷ codes "7" ∷ codes "99" ∷ codes "e" ∷ []) ≡ None
+  pub many_elements : command_of (codes "gen" ∷ codes "7" ∷ codes "10000001" ∷ codes "e" ∷ []) ≡ None
+  pub far_seed : command_of (codes "gen" ∷ codes "18446744073709551616" ∷ codes "100" ∷ codes "e" ∷ []) ≡ None
+  -- no seed, a key in its place, no extract, and an option in its place
+  pub no_seed : command_of (codes "gen" ∷ [] ∷ codes "100" ∷ codes "e" ∷ []) ≡ None
+  pub key : command_of (codes "gen" ∷ codes "amenity" ∷ codes "100" ∷ codes "e" ∷ []) ≡ None
+  pub no_extract : command_of (codes "gen" ∷ codes "7" ∷ codes "100" ∷ [] ∷ []) ≡ None
+  pub option_for_extract : command_of (codes "gen" ∷ codes "7" ∷ codes "100" ∷ codes "--lanes" ∷ []) ≡ None

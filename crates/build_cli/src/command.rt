@@ -1,8 +1,8 @@
 ghost use Rattle.std.specs.Prelude.{◌≡◌, map, string_bytes, length, not, ◌&&◌, ◌==◌, codes, nat_eq, IfSome, IfOk, true};
 ghost use Rattle.std.specs.Option.{option_map};
-ghost use Rattle.build_cli.specs.Command.{HasGoodValues, IsKeyed, is_argument, rules_of, check_of, build_of, show_of, command_of, seen_command, seen_rules, source_of};
+ghost use Rattle.build_cli.specs.Command.{HasGoodValues, IsKeyed, is_argument, rules_of, check_of, build_of, show_of, generate_of, four_of, command_of, seen_command, seen_rules, source_of};
 
-use crate::number::tile_of;
+use crate::number::{count_of, seed_of, tile_of};
 use build_one::ProfileFrom;
 use std::alloc::Global;
 use tb_types::{Memory, Text, TileXyz};
@@ -34,9 +34,16 @@ pub enum Command<'a> {
         archive: &'a str,
         tile: TileXyz,
     },
+    /// Generate the extract of a seed and a number of elements.
+    Generate {
+        seed: u64,
+        count: u64,
+        extract: &'a str,
+    },
 }
 
-/// The command of these words, or `None` where they are none. A key isn't empty, and a tile lies within its zoom.
+/// The command of these words, or `None` where they are none. A key isn't empty, a tile lies within its zoom, and an extract has
+/// as many elements as it may.
 pub fn command_of(words: &[String]) -> Option<Command<'_>>
     ensures command { option_map seen_command result ≡ command_of (map (λ word. string_bytes word) words.now) }
     ensures values { IfSome result (λ c. HasGoodValues (seen_command c)) }
@@ -46,11 +53,11 @@ pub fn command_of(words: &[String]) -> Option<Command<'_>>
         [_] => None,
         [name, archive] => check_of(name.as_str(), archive.as_str()),
         [_, _, _] => None,
-        [name, first, extract, archive] => build_of(
+        [name, first, second, third] => four_of(
             name.as_str(),
             first.as_str(),
-            extract.as_str(),
-            archive.as_str(),
+            second.as_str(),
+            third.as_str(),
         ),
         [name, archive, zoom, column, row] => show_of(
             name.as_str(),
@@ -76,6 +83,40 @@ fn check_of<'a>(name: &str, archive: &'a str) -> Option<Command<'a>>
 }
 
 // A command of four words.
+fn four_of<'a>(name: &str, first: &'a str, second: &'a str, third: &'a str) -> Option<Command<'a>>
+    ensures command { option_map seen_command result ≡ four_of name.now first.now second.now third.now }
+    ensures values { IfSome result (λ c. HasGoodValues (seen_command c)) }
+{
+    if name == "gen" {
+        generate_of(first, second, third)
+    } else {
+        build_of(name, first, second, third)
+    }
+}
+
+// The command that generates.
+fn generate_of<'a>(seed: &str, count: &str, extract: &'a str) -> Option<Command<'a>>
+    ensures command { option_map seen_command result ≡ generate_of seed.now count.now extract.now }
+    ensures values { IfSome result (λ c. HasGoodValues (seen_command c)) }
+{
+    if !is_argument(extract) {
+        return None;
+    }
+    let seed = match seed_of(seed) {
+        Some(seed) => seed,
+        None => return None,
+    };
+    match count_of(count) {
+        Some(count) => Some(Command::Generate {
+            seed,
+            count,
+            extract,
+        }),
+        None => None,
+    }
+}
+
+// A command that builds.
 fn build_of<'a>(
     name: &str,
     first: &'a str,

@@ -1,4 +1,5 @@
 ghost use Rattle.build_cli.specs.Answers.{DoneMeansWritten, OnlyWordsAreNotUnderstood};
+ghost use Rattle.build_cli.specs.Generated.{DoneMeansGenerated, GeneratingIsComplete};
 ghost use Rattle.build_cli.specs.Looks.{DoneMeansShown, LooksAreComplete};
 ghost use Rattle.build_cli.specs.Worked.{WorkedWords};
 
@@ -23,7 +24,18 @@ pub fn looks_are_complete()
     ensures { LooksAreComplete }
 {}
 
-/// Worked words of `check` and `show`.
+/// Status 0 of `gen` means that the archive's sink has just the extract more, that the console has just its line more, and that no
+/// count of faults rose.
+pub fn done_means_generated()
+    ensures { DoneMeansGenerated }
+{}
+
+/// Where neither the count of the archive's sink rose nor the console's, `gen` answers 0, or want of memory.
+pub fn generating_is_complete()
+    ensures { GeneratingIsComplete }
+{}
+
+/// Worked words of `check`, `show` and `gen`.
 pub fn worked_words()
     ensures { WorkedWords }
 {}

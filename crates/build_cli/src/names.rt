@@ -14,7 +14,7 @@ pub struct Names {
     pub profile: Text,
     /// The extract or the archive that is read, once for each lane.
     pub readers: Seq<Text>,
-    /// The archive that is written.
+    /// The archive or the extract that is written.
     pub output: Text,
 }
 
@@ -33,6 +33,7 @@ pub fn names_of(alloc: Global, words: &[String]) -> Result<Option<Names>, Memory
         ) => Ok(Some(named(alloc, profile_name(rules), extract, archive)?)),
         Some(Command::Check { archive }) => Ok(Some(named(alloc, "", archive, "")?)),
         Some(Command::Show { archive, .. }) => Ok(Some(named(alloc, "", archive, "")?)),
+        Some(Command::Generate { extract, .. }) => Ok(Some(named(alloc, "", "", extract)?)),
     }
 }
 
@@ -46,7 +47,7 @@ fn profile_name(rules: Rules<'_>) -> &str
     }
 }
 
-// The names of a command that reads one file.
+// The names of a command that reads one file or none.
 fn named(alloc: Global, profile: &str, reader: &str, output: &str) -> Result<Names, Memory>
     ensures { IfOk result (λ names. names ≡ record { profile = profile.now; readers = reader.now ∷ []; output = output.now }) }
 {

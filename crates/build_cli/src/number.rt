@@ -1,10 +1,16 @@
 ghost use Rattle.std.specs.Prelude.{◌≡◌, ◌-◌, ◌^◌, ◌≤◌, IfSome};
 ghost use Rattle.hilbert_ids.specs.Ids.{IsTile, last_zoom};
-ghost use Rattle.build_cli.specs.Numbers.{number_of, tile_of};
+ghost use Rattle.build_cli.specs.Numbers.{number_of, seed_of, count_of, tile_of};
 
 use hilbert_ids::MAX_ZOOM;
 use itoa::Buffer;
 use tb_types::TileXyz;
+
+/// The fewest elements of an extract that is generated.
+pub const FEWEST: u64 = 100;
+
+/// The most elements of an extract that is generated.
+pub const MOST: u64 = 10_000_000;
 
 /// The number that a word is, if it is at most `most`: decimal digits without a sign, and without leading zeros but `0`.
 pub fn number_of(word: &str, most: u64) -> Option<u64>
@@ -21,6 +27,25 @@ pub fn number_of(word: &str, most: u64) -> Option<u64>
     } else {
         None
     }
+}
+
+/// The seed of an extract: any number of 64 bits.
+pub fn seed_of(word: &str) -> Option<u64>
+    ensures { result ≡ seed_of word.now }
+{
+    number_of(word, u64::MAX)
+}
+
+/// How many elements an extract has: 100 to 10,000,000.
+pub fn count_of(word: &str) -> Option<u64>
+    ensures number { result ≡ count_of word.now }
+    ensures within { IfSome result (λ n. (FEWEST ≤ n) × (n ≤ MOST)) }
+{
+    let n = match number_of(word, MOST) {
+        Some(n) => n,
+        None => return None,
+    };
+    if n >= FEWEST { Some(n) } else { None }
 }
 
 /// The tile of a zoom, a column and a row: the zoom is at most 26, column and row are below 2^zoom.

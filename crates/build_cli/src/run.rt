@@ -10,6 +10,7 @@ ghost use Rattle.build_cli.specs.declared.status.Refusal.TheVariants.{Stopped};
 ghost use Rattle.tile_model.specs.declared.stop.Stop.TheVariants as stops;
 
 use crate::command::{Command, Rules, command_of, source_of};
+use crate::generate::{tell_generated, write_extract};
 use crate::line::{refuse, tell_build, tell_look};
 use crate::status::Refusal;
 use archive_text::{check_archive, show_tile};
@@ -23,7 +24,8 @@ use tb_outside::{Lane, Sink, Source, Spill};
 ///
 /// The console gets the text of success, or the line of the refusal. `check` and `show` read the archive by the lane's reader,
 /// and use nothing else. Of a build the archive's sink gets nothing before all tiles stand in the spool, so it holds the whole archive
-/// (status 0, and 9 where only the console failed), a prefix of it (8 and 9), or nothing new.
+/// (status 0, and 9 where only the console failed), a prefix of it (8 and 9), or nothing new. `gen` appends its extract to that sink
+/// frame after frame and uses nothing else, so it holds the whole extract (status 0, and 9 where only the console failed), or a prefix.
 pub fn run_one<R: Source, S: Spill, K: Sink>(
     alloc: Global,
     words: &[String],
@@ -37,7 +39,7 @@ pub fn run_one<R: Source, S: Spill, K: Sink>(
         (one_lane R.seen R.seen S.seen K.seen profile.old lane.old spool.old archive.old)
         (one_lane R.seen R.seen S.seen K.seen profile.new lane.new spool.new archive.new) (K.seen console.old) (K.seen console.new) result }
     ensures spill { lane.new.spill ≡ lane.old.spill }
-    ensures unused { Leaves (command_of (map (λ word. string_bytes word) words.now)) (profile.new ≡ profile.old) ((spool.new ≡ spool.old) × (archive.new ≡ archive.old)) }
+    ensures unused { Leaves (command_of (map (λ word. string_bytes word) words.now)) (profile.new ≡ profile.old) (lane.new.reader ≡ lane.old.reader) (spool.new ≡ spool.old) (archive.new ≡ archive.old) }
 {
     match command_of(words) {
         None => refuse(console, Refusal::Words),
@@ -52,6 +54,10 @@ pub fn run_one<R: Source, S: Spill, K: Sink>(
         Some(Command::Show { tile, .. }) => {
             let ended = show_tile(alloc, &mut lane.reader, tile);
             tell_look(console, ended)
+        }
+        Some(Command::Generate { seed, count, .. }) => {
+            let ended = write_extract(alloc, seed, count, archive);
+            tell_generated(console, ended)
         }
     }
 }

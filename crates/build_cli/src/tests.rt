@@ -9,6 +9,7 @@ mod again;
 mod damage;
 mod edges;
 mod failing;
+mod generate;
 mod looks;
 mod many;
 mod maps;

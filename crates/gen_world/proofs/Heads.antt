@@ -15,7 +15,7 @@ within_short (suc more) n =
     let rest = within_short more (n / 128) in
     shorter (nat_lt n 128) (suc more) (n ∷ []) ((n % 128 + 128) ∷ encoding_within more (n / 128)) (omega arith) (omega arith)
 
-encoding_short : (n : ℕ) → length (encoding n) ≤ 10
+pub encoding_short : (n : ℕ) → length (encoding n) ≤ 10
 unfolding encoding
 encoding_short n = within_short 9 n
 

@@ -3,5 +3,6 @@ pub mod Draws
 pub mod FrameList
 pub mod Heads
 pub mod SameWords
+pub mod Sizes
 pub mod Texts
 pub mod WorkedCases

@@ -1,4 +1,5 @@
-ghost use Rattle.std.specs.Prelude.{◌≡◌, ℕ, List, [], ◌∷◌, ◌+◌, ◌-◌, ◌≤◌, ◌<◌, ◌*◌, min, drop, length, IfOk, IfSome, IfNone, OnOk, OnErr};
+ghost use Rattle.std.specs.Prelude.{◌≡◌, ℕ, List, [], ◌∷◌, ◌+◌, ◌-◌, ◌≤◌, ◌<◌, ◌*◌, ◌^◌, min, drop, length, IfOk, IfSome, IfNone, OnOk, OnErr};
+ghost use Rattle.std.specs.List.{concat};
 ghost use Rattle.gen_world.specs.Frames.{frames_of, frames_with, frames_for, node_frame, way_frame, relation_frame};
 ghost use Rattle.gen_world.specs.Elements.{way_draws};
 ghost use Rattle.gen_world.specs.Draws.{draws_before, frame_count, AreCounts};
@@ -39,7 +40,11 @@ impl Model for GenWorld {
 pub fn gen_blocks(alloc: Global, seed: u64, count: u64) -> Result<GenWorld, Memory>
     requires least { 100 ≤ count }
     requires most { count ≤ 10000000 }
-    ensures { IfOk result (λ w. w ≡ frames_of seed count) }
+    ensures frames { IfOk result (λ w. w ≡ frames_of seed count) }
+
+    // They are few, and so are their bytes.
+    ensures few { IfOk result (λ w. length w < 2 ^ 20) }
+    ensures short { IfOk result (λ w. length (concat w) < 2 ^ 40) }
 {
     Ok(GenWorld {
         alloc,

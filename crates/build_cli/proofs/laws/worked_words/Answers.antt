@@ -17,4 +17,13 @@ returns c = record {
   no_archive = refl;
   option = refl;
   few = refl;
+  least_extract = refl;
+  most_extract = refl;
+  few_elements = refl;
+  many_elements = refl;
+  far_seed = refl;
+  no_seed = refl;
+  key = refl;
+  no_extract = refl;
+  option_for_extract = refl;
 }
