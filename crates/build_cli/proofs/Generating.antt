@@ -133,7 +133,7 @@ complete-by frames old new console new_console answer (Err gen_errors.Memory) ma
 pub generated_of : (command : Option Command) (before after : Objects) (console new_console : SinkSeen) (answer : ℕ) → AnswersCommand command before after console new_console answer → answer ≡ done
     → IfGenerates command (λ seed count. IsGenerated seed count before after console new_console)
 generated_of None before after console new_console answer h is = tt
-generated_of (Some (build rules extract archive)) before after console new_console answer h is = tt
+generated_of (Some (build rules extract archive budget)) before after console new_console answer h is = tt
 generated_of (Some (check archive)) before after console new_console answer h is = tt
 generated_of (Some (show archive tile)) before after console new_console answer h is = tt
 generated_of (Some (generate seed count extract)) before after console new_console answer h is =
@@ -142,7 +142,7 @@ generated_of (Some (generate seed count extract)) before after console new_conso
 pub complete_of : (command : Option Command) (before after : Objects) (console new_console : SinkSeen) (answer : ℕ) → AnswersCommand command before after console new_console answer → (Rose before.archive.faults after.archive.faults → ⊥)
     → (Rose console.faults new_console.faults → ⊥) → IfGenerates command (λ seed count. (answer ≡ done) ⊎ (answer ≡ status_of (Stopped stops.Memory)))
 complete_of None before after console new_console answer h still quiet = tt
-complete_of (Some (build rules extract archive)) before after console new_console answer h still quiet = tt
+complete_of (Some (build rules extract archive budget)) before after console new_console answer h still quiet = tt
 complete_of (Some (check archive)) before after console new_console answer h still quiet = tt
 complete_of (Some (show archive tile)) before after console new_console answer h still quiet = tt
 complete_of (Some (generate seed count extract)) before after console new_console answer h still quiet =

@@ -106,7 +106,7 @@ fits text before after console new_console answer h none quiet =
 pub shown_of : (command : Option Command) (before after : Objects) (console new_console : SinkSeen) (answer : ℕ) → AnswersCommand command before after console new_console answer → answer ≡ done
     → IfSome (text_of command) (λ text. IfSome (extract_in before) (λ archive. IsShown text archive before after console new_console))
 shown_of None before after console new_console answer h is = tt
-shown_of (Some (build rules extract archive)) before after console new_console answer h is = tt
+shown_of (Some (build rules extract archive budget)) before after console new_console answer h is = tt
 shown_of (Some (check archive)) before after console new_console answer h is = shown _ before after console new_console answer h is
 shown_of (Some (show archive tile)) before after console new_console answer h is = shown _ before after console new_console answer h is
 shown_of (Some (generate seed count extract)) before after console new_console answer h is = tt
@@ -114,7 +114,7 @@ shown_of (Some (generate seed count extract)) before after console new_console a
 pub fits_of : (command : Option Command) (before after : Objects) (console new_console : SinkSeen) (answer : ℕ) → AnswersCommand command before after console new_console answer → NoneRose before after → (Rose console.faults new_console.faults → ⊥)
     → IfSome (text_of command) (λ text. IfSome (extract_in before) (λ archive. Fits (due_of text archive) answer))
 fits_of None before after console new_console answer h none quiet = tt
-fits_of (Some (build rules extract archive)) before after console new_console answer h none quiet = tt
+fits_of (Some (build rules extract archive budget)) before after console new_console answer h none quiet = tt
 fits_of (Some (check archive)) before after console new_console answer h none quiet = fits _ before after console new_console answer h none quiet
 fits_of (Some (show archive tile)) before after console new_console answer h none quiet = fits _ before after console new_console answer h none quiet
 fits_of (Some (generate seed count extract)) before after console new_console answer h none quiet = tt

@@ -14,11 +14,12 @@ three-words f (a ∷ b ∷ []) least below = absurd (omega arith)
 three-words f (a ∷ b ∷ c ∷ []) least below = refl
 three-words f (a ∷ b ∷ c ∷ d ∷ words) least below = absurd (omega arith)
 
-pub many-words : {A : Type 0} (f : A → List ℕ) (words : List A) → 6 ≤ length words → command_of (map f words) ≡ None
+pub many-words : {A : Type 0} (f : A → List ℕ) (words : List A) → 7 ≤ length words → command_of (map f words) ≡ None
 many-words f [] least = refl
 many-words f (a ∷ []) least = refl
 many-words f (a ∷ b ∷ []) least = absurd (omega arith)
 many-words f (a ∷ b ∷ c ∷ []) least = refl
 many-words f (a ∷ b ∷ c ∷ d ∷ []) least = absurd (omega arith)
 many-words f (a ∷ b ∷ c ∷ d ∷ e ∷ []) least = absurd (omega arith)
-many-words f (a ∷ b ∷ c ∷ d ∷ e ∷ g ∷ words) least = refl
+many-words f (a ∷ b ∷ c ∷ d ∷ e ∷ g ∷ []) least = absurd (omega arith)
+many-words f (a ∷ b ∷ c ∷ d ∷ e ∷ g ∷ h ∷ words) least = refl

@@ -11,7 +11,7 @@ use Rattle.archive_text.specs.Show.{show_text}
 use Rattle.tile_model.specs.declared.from.ProfileFrom.{ProfileFrom}
 use Rattle.tile_model.specs.declared.stop.Stop.{Stop}
 use Rattle.pmtiles_dirs.specs.declared.totals.Totals.{Totals}
-use Rattle.tile_model.specs.Objects.{Objects}
+use Rattle.tile_model.specs.Objects.{Objects, all_told}
 use Rattle.tile_model.specs.Due.{Due, due_in}
 use Rattle.tile_model.specs.From.{IsAlone}
 use Rattle.build_one.specs.Answers.{BuildAnswers, OnBuilt, IfTold}
@@ -49,9 +49,9 @@ Tells (Ok text) old new answer = ((answer ≡ done) × HasWholeText old new text
 Tells (Err refusal) old new answer = (answer ≡ status_of refusal) × HasLine old new (line_of refusal)
 
 -- a build by these rules answered, and the status and the console tell of its answer
-pub record AnswersBuild (from : ProfileFrom) (before after : Objects) (console new_console : SinkSeen) (answer : ℕ) : Type 0 where
+pub record AnswersBuild (from : ProfileFrom) (budget : ℕ) (before after : Objects) (console new_console : SinkSeen) (answer : ℕ) : Type 0 where
   pub result : Result Totals Stop
-  pub built : BuildAnswers from before after result
+  pub built : BuildAnswers from budget before after result
   pub told : Tells (build_ended result) console new_console answer
 
 -- the reader of lane 0 was asked for a text of the archive that it has, and those of other lanes weren't used
@@ -88,19 +88,19 @@ pub record AnswersWords (before after : Objects) (console new_console : SinkSeen
 
 abbrev pub AnswersCommand : Option Command → Objects → Objects → SinkSeen → SinkSeen → ℕ → Type 0
 AnswersCommand None before after console new_console answer = AnswersWords before after console new_console answer
-AnswersCommand (Some (build rules extract archive)) before after console new_console answer = AnswersBuild (source_of rules) before after console new_console answer
+AnswersCommand (Some (build rules extract archive budget)) before after console new_console answer = AnswersBuild (source_of rules) budget before after console new_console answer
 AnswersCommand (Some (check archive)) before after console new_console answer = AnswersLook check_text before after console new_console answer
 AnswersCommand (Some (show archive tile)) before after console new_console answer = AnswersLook (show_text tile) before after console new_console answer
 AnswersCommand (Some (generate seed count extract)) before after console new_console answer = AnswersGenerate seed count before after console new_console answer
 
 -- What a command that leaves them alone doesn't touch, also where objects don't tell what they hold: the profile's source, the reader, the
 -- spool, and the archive's sink.
-abbrev pub Leaves : Option Command → Type 0 → Type 0 → Type 0 → Type 0 → Type 0
-Leaves None profile reader spool archive = profile × reader × spool × archive
-Leaves (Some (build rules extract output)) profile reader spool archive = IsAlone (source_of rules) → profile
-Leaves (Some (check input)) profile reader spool archive = profile × spool × archive
-Leaves (Some (show input tile)) profile reader spool archive = profile × spool × archive
-Leaves (Some (generate seed count output)) profile reader spool archive = profile × reader × spool
+abbrev pub Leaves : Option Command → Type 0 → Type 0 → Type 0 → Type 0 → Type 0 → Type 0
+Leaves None profile reader spill spool archive = profile × reader × spill × spool × archive
+Leaves (Some (build rules extract output budget)) profile reader spill spool archive = IsAlone (source_of rules) → profile
+Leaves (Some (check input)) profile reader spill spool archive = profile × spill × spool × archive
+Leaves (Some (show input tile)) profile reader spill spool archive = profile × spill × spool × archive
+Leaves (Some (generate seed count output)) profile reader spill spool archive = profile × reader × spill × spool
 
 -- The promise of a top call.
 abbrev pub Answers : List (List ℕ) → Objects → Objects → SinkSeen → SinkSeen → ℕ → Type 0
@@ -109,14 +109,14 @@ Answers words before after console new_console answer = AnswersCommand (command_
 -- what is due for a command that builds, as far as the objects tell
 abbrev pub due_of_command : Option Command → Objects → Option Due
 due_of_command None before = None
-due_of_command (Some (build rules extract archive)) before = due_in (source_of rules) before
+due_of_command (Some (build rules extract archive budget)) before = due_in (source_of rules) budget before
 due_of_command (Some (check archive)) before = None
 due_of_command (Some (show archive tile)) before = None
 due_of_command (Some (generate seed count extract)) before = None
 
 -- an archive is due, and stands behind what the archive's sink had, where the spool tells its runs
 abbrev pub IsWritten : Option Due → Objects → Objects → Type 0
-IsWritten due before after = IfTold before.spool.runs (IfSome due (λ d. OnBuilt d (λ built. after.archive.bytes ≡ with_more before.archive.bytes built.bytes)))
+IsWritten due before after = IfTold (all_told before) (IfSome due (λ d. OnBuilt d (λ built. after.archive.bytes ≡ with_more before.archive.bytes built.bytes)))
 
 -- status 0 means that the archive that is due was written
 abbrev pub DoneMeansWritten : Type 0

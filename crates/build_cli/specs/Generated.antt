@@ -14,7 +14,7 @@ use Rattle.build_cli.specs.Answers.{Answers}
 -- P holds of the seed and the number of elements, where a command generates
 abbrev pub IfGenerates : Option Command → (ℕ → ℕ → Type 0) → Type 0
 IfGenerates None P = Unit {0}
-IfGenerates (Some (build rules extract archive)) P = Unit {0}
+IfGenerates (Some (build rules extract archive budget)) P = Unit {0}
 IfGenerates (Some (check archive)) P = Unit {0}
 IfGenerates (Some (show archive tile)) P = Unit {0}
 IfGenerates (Some (generate seed count extract)) P = P seed count

@@ -1,9 +1,11 @@
 -- The lines on the console.
-use Rattle.std.specs.Prelude.{ℕ, List, [], ◌∷◌, codes, decimal}
+use Rattle.std.specs.Prelude.{ℕ, ◌==◌, if◌then◌else◌, List, [], ◌∷◌, codes, decimal}
 use Rattle.std.specs.List.{concat}
 use Rattle.tb_types.specs.declared.damage.Why.{Why}
 use Rattle.tb_types.specs.declared.damage.Why.TheVariants as reasons
 use Rattle.tb_types.specs.declared.damage.Damage.{Damage}
+use Rattle.tb_types.specs.declared.trouble.Stage.{Stage}
+use Rattle.tb_types.specs.declared.trouble.Stage.TheVariants as stages
 use Rattle.tb_types.specs.declared.trouble.Whom.{Whom}
 use Rattle.tb_types.specs.declared.trouble.Whom.TheVariants as whom
 use Rattle.profile_rules.specs.declared.fault.Part.{Part}
@@ -72,6 +74,27 @@ source_line w = object_line (codes "source: ") w
 abbrev pub spill_line : Whom → List ℕ
 spill_line w = object_line (codes "spill: ") w
 
+-- of a spill that gave back something else: its run, and the place in it
+unfoldable pub outside_line : Whom → ℕ → ℕ → List ℕ
+outside_line w run at = concat (codes "spill: " ∷ whom_text w ∷ lane_text w ∷ codes " run " ∷ decimal run ∷ codes " at " ∷ decimal at ∷ codes "\n" ∷ [])
+
+-- what needs more memory than there is for it
+unfoldable pub stage_text : Stage → List ℕ
+stage_text stages.Block = codes "block"
+stage_text stages.Relation = codes "relation"
+stage_text stages.Tile = codes "tile"
+
+unfoldable pub budget_line : Stage → ℕ → List ℕ
+budget_line stage need = concat (codes "budget: " ∷ stage_text stage ∷ codes ": need " ∷ decimal need ∷ codes "\n" ∷ [])
+
+-- the passes by their numbers
+abbrev pub pass_text : ℕ → List ℕ
+pass_text n = if n == 1 then codes "members" else if n == 2 then codes "nodes" else if n == 3 then codes "ways" else codes "survey"
+
+-- a block that was changed between the survey and a pass behind it
+unfoldable pub changed_line : ℕ → ℕ → List ℕ
+changed_line pass block = concat (codes "changed: pass " ∷ pass_text pass ∷ codes ": block " ∷ decimal block ∷ codes "\n" ∷ [])
+
 -- the part of a profile: its kind, and its number where there are several
 unfoldable pub part_text : Part → List ℕ
 part_text parts.Top = codes "top"
@@ -129,9 +152,6 @@ sink_line = codes "sink: archive\n"
 unfoldable pub memory_line : List ℕ
 memory_line = codes "want of memory\n"
 
-unfoldable pub not_yet_line : List ℕ
-not_yet_line = codes "not built yet\n"
-
 -- the line of a refusal
 abbrev pub line_of : Refusal → List ℕ
 line_of Words = words_line
@@ -139,7 +159,9 @@ line_of (Stopped (stops.Profile spot why)) = profile_line spot why
 line_of (Stopped (stops.Damage damage)) = damage_line damage
 line_of (Stopped (stops.Source w)) = source_line w
 line_of (Stopped (stops.Spill w)) = spill_line w
+line_of (Stopped (stops.Outside w run at)) = outside_line w run at
 line_of (Stopped stops.Sink) = sink_line
-line_of (Stopped stops.NotYet) = not_yet_line
+line_of (Stopped (stops.Budget stage need)) = budget_line stage need
+line_of (Stopped (stops.Changed pass block)) = changed_line pass block
 line_of (Stopped stops.Memory) = memory_line
 line_of (Faulty fault) = archive_line fault

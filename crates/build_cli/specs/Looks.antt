@@ -16,7 +16,7 @@ use Rattle.build_cli.specs.Answers.{Answers}
 -- the text that a command asks for of an archive's bytes, if it looks into one
 abbrev pub text_of : Option Command → Option (List ℕ → List ℕ)
 text_of None = None
-text_of (Some (build rules extract archive)) = None
+text_of (Some (build rules extract archive budget)) = None
 text_of (Some (check archive)) = Some check_text
 text_of (Some (show archive tile)) = Some (show_text tile)
 text_of (Some (generate seed count extract)) = None

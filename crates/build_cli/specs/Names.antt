@@ -10,7 +10,7 @@ profile_name (by_profile name) = name
 
 -- the names of a command's files: one reader, and what isn't named is empty
 abbrev pub names_of : Command → Names
-names_of (build rules extract archive) = record { profile = profile_name rules; readers = extract ∷ []; output = archive }
+names_of (build rules extract archive budget) = record { profile = profile_name rules; readers = extract ∷ []; output = archive }
 names_of (check archive) = record { profile = []; readers = archive ∷ []; output = [] }
 names_of (show archive tile) = record { profile = []; readers = archive ∷ []; output = [] }
 names_of (generate seed count extract) = record { profile = []; readers = [] ∷ []; output = extract }

@@ -5,7 +5,7 @@ use Rattle.std.specs.Str.{bytes_eq}
 use Rattle.std.specs.Str.Parse.{digits_value}
 use Rattle.tb_types.specs.declared.tile.TileXyz.{TileXyz}
 use Rattle.hilbert_ids.specs.Ids.{last_zoom}
-use Rattle.build_cli.specs.declared.number.TheConstants.{FEWEST, MOST}
+use Rattle.build_cli.specs.declared.number.TheConstants.{FEWEST, LEAST_BUDGET, MOST, MOST_BUDGET}
 
 -- the number of a word's digits, where they are digits
 abbrev pub value_of : List ℕ → ℕ
@@ -25,6 +25,10 @@ seed_of word = number_of word (2 ^ 64 - 1)
 
 abbrev pub count_of : List ℕ → Option ℕ
 count_of word = option_and_then (λ n. if nat_le FEWEST n then Some n else None) (number_of word MOST)
+
+-- a budget, in bytes
+abbrev pub budget_of : List ℕ → Option ℕ
+budget_of word = option_and_then (λ n. if nat_le LEAST_BUDGET n then Some n else None) (number_of word MOST_BUDGET)
 
 -- the tile of a zoom, a column and a row
 abbrev pub tile_of : List ℕ → List ℕ → List ℕ → Option TileXyz

@@ -17,10 +17,12 @@ sink_failed = 9
 abbrev pub status_of : Refusal → ℕ
 status_of Words = 2
 status_of (Stopped (stops.Profile spot why)) = 3
-status_of (Stopped stops.NotYet) = 13
+status_of (Stopped (stops.Budget stage need)) = 5
 status_of (Stopped (stops.Source whom)) = 7
 status_of (Stopped (stops.Damage damage)) = 4
 status_of (Stopped (stops.Spill whom)) = 8
+status_of (Stopped (stops.Outside whom run at)) = 8
 status_of (Stopped stops.Sink) = 9
+status_of (Stopped (stops.Changed pass block)) = 12
 status_of (Stopped stops.Memory) = 10
 status_of (Faulty fault) = 11

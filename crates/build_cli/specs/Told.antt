@@ -5,7 +5,7 @@ use Rattle.build_cli.specs.Command.{Command, build, check, show, generate, sourc
 
 abbrev pub due_of : Option Command → List ℕ → List ℕ → Option builds.Due
 due_of None profile reader = None
-due_of (Some (build rules extract archive)) profile reader = builds.due_of (source_of rules) (Some profile) (Some reader)
+due_of (Some (build rules extract archive budget)) profile reader = builds.due_of (source_of rules) budget (Some profile) (Some reader)
 due_of (Some (check archive)) profile reader = None
 due_of (Some (show archive tile)) profile reader = None
 due_of (Some (generate seed count extract)) profile reader = None

@@ -1,6 +1,6 @@
 -- Worked words, and what they ask for.
 use Rattle.std.specs.Prelude.{◌≡◌, None, Some, [], ◌∷◌, codes}
-use Rattle.build_cli.specs.Command.{check, show, generate, command_of}
+use Rattle.build_cli.specs.Command.{build, by_profile, check, show, generate, command_of}
 
 pub record WorkedWords : Type 0 where
   pub all : command_of (codes "check" ∷ codes "a" ∷ []) ≡ Some (check (codes "a"))
@@ -29,3 +29,15 @@ pub record WorkedWords : Type 0 where
   pub key : command_of (codes "gen" ∷ codes "amenity" ∷ codes "100" ∷ codes "e" ∷ []) ≡ None
   pub no_extract : command_of (codes "gen" ∷ codes "7" ∷ codes "100" ∷ [] ∷ []) ≡ None
   pub option_for_extract : command_of (codes "gen" ∷ codes "7" ∷ codes "100" ∷ codes "--lanes" ∷ []) ≡ None
+  -- a build without a budget, the option at each of its places, the least budget and the most
+  pub usual : command_of (codes "build" ∷ codes "p" ∷ codes "e" ∷ codes "a" ∷ []) ≡ Some (build (by_profile (codes "p")) (codes "e") (codes "a") 1073741824)
+  pub least_budget : command_of (codes "build" ∷ codes "--budget" ∷ codes "1048576" ∷ codes "p" ∷ codes "e" ∷ codes "a" ∷ []) ≡ Some (build (by_profile (codes "p")) (codes "e") (codes "a") 1048576)
+  pub most_budget : command_of (codes "build" ∷ codes "p" ∷ codes "--budget" ∷ codes "4294967296" ∷ codes "e" ∷ codes "a" ∷ []) ≡ Some (build (by_profile (codes "p")) (codes "e") (codes "a") 4294967296)
+  pub third_budget : command_of (codes "build" ∷ codes "p" ∷ codes "e" ∷ codes "--budget" ∷ codes "1048577" ∷ codes "a" ∷ []) ≡ Some (build (by_profile (codes "p")) (codes "e") (codes "a") 1048577)
+  pub last_budget : command_of (codes "build" ∷ codes "p" ∷ codes "e" ∷ codes "a" ∷ codes "--budget" ∷ codes "4294967295" ∷ []) ≡ Some (build (by_profile (codes "p")) (codes "e") (codes "a") 4294967295)
+  -- one below the least and one above the most, the option twice, without its number, and of another command
+  pub small_budget : command_of (codes "build" ∷ codes "--budget" ∷ codes "1048575" ∷ codes "p" ∷ codes "e" ∷ codes "a" ∷ []) ≡ None
+  pub large_budget : command_of (codes "build" ∷ codes "p" ∷ codes "e" ∷ codes "a" ∷ codes "--budget" ∷ codes "4294967297" ∷ []) ≡ None
+  pub twice : command_of (codes "build" ∷ codes "--budget" ∷ codes "1048576" ∷ codes "p" ∷ codes "e" ∷ codes "a" ∷ codes "--budget" ∷ codes "1048576" ∷ []) ≡ None
+  pub no_number : command_of (codes "build" ∷ codes "p" ∷ codes "e" ∷ codes "a" ∷ codes "--budget" ∷ []) ≡ None
+  pub of_nodes : command_of (codes "nodes" ∷ codes "amenity" ∷ codes "e" ∷ codes "a" ∷ codes "--budget" ∷ codes "1048576" ∷ []) ≡ None

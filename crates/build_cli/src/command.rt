@@ -1,8 +1,9 @@
-ghost use Rattle.std.specs.Prelude.{◌≡◌, map, string_bytes, length, not, ◌&&◌, ◌==◌, codes, nat_eq, IfSome, IfOk, true};
+ghost use Rattle.build_cli.specs.declared.number.TheConstants.{MOST_BUDGET};
+ghost use Rattle.std.specs.Prelude.{◌≡◌, ◌≤◌, map, string_bytes, length, not, ◌&&◌, ◌==◌, codes, nat_eq, IfSome, IfOk, true};
 ghost use Rattle.std.specs.Option.{option_map};
-ghost use Rattle.build_cli.specs.Command.{HasGoodValues, IsKeyed, is_argument, rules_of, check_of, build_of, show_of, generate_of, four_of, command_of, seen_command, seen_rules, source_of};
+ghost use Rattle.build_cli.specs.Command.{HasGoodValues, IsKeyed, is_argument, rules_of, check_of, build_of, build_within, budgeted, is_budget, with_budget, show_of, generate_of, four_of, command_of, seen_command, seen_rules, source_of};
 
-use crate::number::{count_of, seed_of, tile_of};
+use crate::number::{DEFAULT_BUDGET, budget_of, count_of, seed_of, tile_of};
 use build_one::ProfileFrom;
 use std::alloc::Global;
 use tb_types::{Memory, Text, TileXyz};
@@ -19,11 +20,12 @@ pub enum Rules<'a> {
 /// A command with its values.
 #[derive(Clone, Copy, Debug, PartialEq, Eq)]
 pub enum Command<'a> {
-    /// Build a map by these rules, from an extract to an archive.
+    /// Build a map by these rules, from an extract to an archive, within a budget of memory in bytes.
     Build {
         rules: Rules<'a>,
         extract: &'a str,
         archive: &'a str,
+        budget: u64,
     },
     /// Tell what an archive holds.
     Check {
@@ -66,7 +68,15 @@ pub fn command_of(words: &[String]) -> Option<Command<'_>>
             column.as_str(),
             row.as_str(),
         ),
-        [_, _, _, _, _, _, ..] => None,
+        [name, a, b, c, d, e] => with_budget(
+            name.as_str(),
+            a.as_str(),
+            b.as_str(),
+            c.as_str(),
+            d.as_str(),
+            e.as_str(),
+        ),
+        [_, _, _, _, _, _, _, ..] => None,
     }
 }
 
@@ -116,7 +126,7 @@ fn generate_of<'a>(seed: &str, count: &str, extract: &'a str) -> Option<Command<
     }
 }
 
-// A command that builds.
+// A command that builds within the budget of one that gives none.
 fn build_of<'a>(
     name: &str,
     first: &'a str,
@@ -126,17 +136,85 @@ fn build_of<'a>(
     ensures command { option_map seen_command result ≡ build_of name.now first.now extract.now archive.now }
     ensures values { IfSome result (λ c. HasGoodValues (seen_command c)) }
 {
+    build_within(DEFAULT_BUDGET, name, first, extract, archive)
+}
+
+// A command that builds within a budget.
+fn build_within<'a>(
+    budget: u64,
+    name: &str,
+    first: &'a str,
+    extract: &'a str,
+    archive: &'a str,
+) -> Option<Command<'a>>
+    requires { budget ≤ MOST_BUDGET }
+    ensures command { option_map seen_command result ≡ build_within budget name.now first.now extract.now archive.now }
+    ensures values { IfSome result (λ c. HasGoodValues (seen_command c)) }
+{
     if is_argument(first) && is_argument(extract) && is_argument(archive) {
         match rules_of(name, first) {
             Some(rules) => Some(Command::Build {
                 rules,
                 extract,
                 archive,
+                budget,
             }),
             None => None,
         }
     } else {
         None
+    }
+}
+
+// A command of six words: the option for the budget stands before its number, wherever, among three arguments.
+fn with_budget<'a>(
+    name: &str,
+    a: &'a str,
+    b: &'a str,
+    c: &'a str,
+    d: &'a str,
+    e: &'a str,
+) -> Option<Command<'a>>
+    ensures command { option_map seen_command result ≡ with_budget name.now a.now b.now c.now d.now e.now }
+    ensures values { IfSome result (λ c. HasGoodValues (seen_command c)) }
+{
+    if is_budget(a) {
+        budgeted(name, b, c, d, e)
+    } else if is_budget(b) {
+        budgeted(name, c, a, d, e)
+    } else if is_budget(c) {
+        budgeted(name, d, a, b, e)
+    } else if is_budget(d) {
+        budgeted(name, e, a, b, c)
+    } else {
+        None
+    }
+}
+
+// Whether a word is the option for the budget.
+fn is_budget(word: &str) -> bool
+    ensures { result ≡ is_budget word.now }
+{
+    word == "--budget"
+}
+
+// A build by a profile within the budget that a word says.
+fn budgeted<'a>(
+    name: &str,
+    value: &str,
+    first: &'a str,
+    extract: &'a str,
+    archive: &'a str,
+) -> Option<Command<'a>>
+    ensures command { option_map seen_command result ≡ budgeted name.now value.now first.now extract.now archive.now }
+    ensures values { IfSome result (λ c. HasGoodValues (seen_command c)) }
+{
+    if name != "build" {
+        return None;
+    }
+    match budget_of(value) {
+        Some(budget) => build_within(budget, name, first, extract, archive),
+        None => None,
     }
 }
 

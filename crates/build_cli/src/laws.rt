@@ -35,7 +35,7 @@ pub fn generating_is_complete()
     ensures { GeneratingIsComplete }
 {}
 
-/// Worked words of `check`, `show` and `gen`.
+/// Worked words of `build` with its budget, `check`, `show` and `gen`.
 pub fn worked_words()
     ensures { WorkedWords }
 {}

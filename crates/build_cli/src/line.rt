@@ -1,6 +1,6 @@
 ghost use Rattle.std.specs.Prelude.{◌≡◌};
 ghost use Rattle.tb_outside.specs.Sink.{SinkAnswers};
-ghost use Rattle.build_cli.specs.Line.{success_line, line_of, object_line, whom_text, lane_text, damage_line, why_text, profile_line, part_text, number_text, fault_text, archive_line, flaw_text};
+ghost use Rattle.build_cli.specs.Line.{success_line, line_of, object_line, outside_line, budget_line, stage_text, changed_line, pass_text, whom_text, lane_text, damage_line, why_text, profile_line, part_text, number_text, fault_text, archive_line, flaw_text};
 ghost use Rattle.build_cli.specs.Answers.{HasLine, Tells};
 ghost use Rattle.build_cli.specs.Ended.{build_ended, look_ended};
 ghost use Rattle.build_cli.specs.Status.{status_of};
@@ -12,7 +12,7 @@ use build_one::{Stop, Totals};
 use itoa::Buffer;
 use profile_rules::{Part, ProfileWhy, Spot};
 use tb_outside::{Failed, Sink};
-use tb_types::{Damage, Text, Whom, Why};
+use tb_types::{Damage, Stage, Text, Whom, Why};
 
 // Tells the console of an archive that is written. It takes no memory.
 #[tactic(auto, unfolding(crate::specs::Line::success_line))]
@@ -79,7 +79,7 @@ pub fn refuse<K: Sink>(console: &mut K, refusal: Refusal) -> u8
 }
 
 // Appends the line of a refusal.
-#[tactic(auto, unfolding(crate::specs::Line::words_line, crate::specs::Line::sink_line, crate::specs::Line::not_yet_line, crate::specs::Line::memory_line))]
+#[tactic(auto, unfolding(crate::specs::Line::words_line, crate::specs::Line::sink_line, crate::specs::Line::memory_line))]
 fn tell_refusal<K: Sink>(console: &mut K, refusal: Refusal) -> Result<(), Failed>
     ensures { SinkAnswers (K.seen console.old) (K.seen console.new) (line_of refusal) result }
 {
@@ -89,8 +89,10 @@ fn tell_refusal<K: Sink>(console: &mut K, refusal: Refusal) -> Result<(), Failed
         Refusal::Stopped(Stop::Damage(damage)) => tell_damage(console, damage),
         Refusal::Stopped(Stop::Source(whom)) => tell_object(console, b"source: ", whom),
         Refusal::Stopped(Stop::Spill(whom)) => tell_object(console, b"spill: ", whom),
+        Refusal::Stopped(Stop::Outside { whom, run, at }) => tell_outside(console, whom, run, at),
         Refusal::Stopped(Stop::Sink) => console.append(b"sink: archive\n"),
-        Refusal::Stopped(Stop::NotYet) => console.append(b"not built yet\n"),
+        Refusal::Stopped(Stop::Budget { stage, need }) => tell_budget(console, stage, need),
+        Refusal::Stopped(Stop::Changed { pass, block }) => tell_changed(console, pass, block),
         Refusal::Stopped(Stop::Memory) => console.append(b"want of memory\n"),
         Refusal::Faulty(fault) => tell_fault(console, fault),
     }
@@ -111,6 +113,89 @@ fn tell_object<K: Sink>(console: &mut K, role: &'static [u8], whom: Whom) -> Res
             b"\n".as_slice(),
         ],
     )
+}
+
+// Appends the line of a spill that gave back something else than was written.
+#[tactic(auto, unfolding(crate::specs::Line::outside_line))]
+fn tell_outside<K: Sink>(console: &mut K, whom: Whom, run: u64, at: u64) -> Result<(), Failed>
+    ensures { SinkAnswers (K.seen console.old) (K.seen console.new) (outside_line whom run at) result }
+{
+    let mut digits = Buffer::new();
+    let mut number = Buffer::new();
+    let mut place = Buffer::new();
+    append_all(
+        console,
+        &[
+            b"spill: ".as_slice(),
+            whom_text(whom),
+            lane_text(&mut digits, whom),
+            b" run ".as_slice(),
+            number.format(run).as_bytes(),
+            b" at ".as_slice(),
+            place.format(at).as_bytes(),
+            b"\n".as_slice(),
+        ],
+    )
+}
+
+// Appends the line of a need of memory.
+#[tactic(auto, unfolding(crate::specs::Line::budget_line))]
+fn tell_budget<K: Sink>(console: &mut K, stage: Stage, need: u64) -> Result<(), Failed>
+    ensures { SinkAnswers (K.seen console.old) (K.seen console.new) (budget_line stage need) result }
+{
+    let mut digits = Buffer::new();
+    append_all(
+        console,
+        &[
+            b"budget: ".as_slice(),
+            stage_text(stage),
+            b": need ".as_slice(),
+            digits.format(need).as_bytes(),
+            b"\n".as_slice(),
+        ],
+    )
+}
+
+// What needs memory.
+#[tactic(auto, unfolding(crate::specs::Line::stage_text))]
+fn stage_text(stage: Stage) -> &'static [u8]
+    ensures { result.now ≡ stage_text stage }
+{
+    match stage {
+        Stage::Block => b"block",
+        Stage::Relation => b"relation",
+        Stage::Tile => b"tile",
+    }
+}
+
+// Appends the line of a block that was changed.
+#[tactic(auto, unfolding(crate::specs::Line::changed_line))]
+fn tell_changed<K: Sink>(console: &mut K, pass: u8, block: u32) -> Result<(), Failed>
+    ensures { SinkAnswers (K.seen console.old) (K.seen console.new) (changed_line pass block) result }
+{
+    let mut digits = Buffer::new();
+    append_all(
+        console,
+        &[
+            b"changed: pass ".as_slice(),
+            pass_text(pass),
+            b": block ".as_slice(),
+            digits.format(block).as_bytes(),
+            b"\n".as_slice(),
+        ],
+    )
+}
+
+// The name of a pass.
+fn pass_text(pass: u8) -> &'static [u8]
+    ensures { result.now ≡ pass_text pass }
+{
+    match pass {
+        1 => b"members",
+        2 => b"nodes",
+        3 => b"ways",
+        _ => b"survey",
+    }
 }
 
 // The name of an object outside.

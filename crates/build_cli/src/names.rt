@@ -29,6 +29,7 @@ pub fn names_of(alloc: Global, words: &[String]) -> Result<Option<Names>, Memory
                 rules,
                 extract,
                 archive,
+                ..
             },
         ) => Ok(Some(named(alloc, profile_name(rules), extract, archive)?)),
         Some(Command::Check { archive }) => Ok(Some(named(alloc, "", archive, "")?)),

@@ -1,6 +1,6 @@
 ghost use Rattle.std.specs.Prelude.{◌≡◌, ◌-◌, ◌^◌, ◌≤◌, IfSome};
 ghost use Rattle.hilbert_ids.specs.Ids.{IsTile, last_zoom};
-ghost use Rattle.build_cli.specs.Numbers.{number_of, seed_of, count_of, tile_of};
+ghost use Rattle.build_cli.specs.Numbers.{number_of, budget_of, seed_of, count_of, tile_of};
 
 use hilbert_ids::MAX_ZOOM;
 use itoa::Buffer;
@@ -11,6 +11,15 @@ pub const FEWEST: u64 = 100;
 
 /// The most elements of an extract that is generated.
 pub const MOST: u64 = 10_000_000;
+
+/// The budget of a build that gives none, in bytes.
+pub const DEFAULT_BUDGET: u64 = 1 << 30;
+
+/// The least budget, in bytes.
+pub const LEAST_BUDGET: u64 = 1 << 20;
+
+/// The largest budget, in bytes.
+pub const MOST_BUDGET: u64 = 1 << 32;
 
 /// The number that a word is, if it is at most `most`: decimal digits without a sign, and without leading zeros but `0`.
 pub fn number_of(word: &str, most: u64) -> Option<u64>
@@ -46,6 +55,18 @@ pub fn count_of(word: &str) -> Option<u64>
         None => return None,
     };
     if n >= FEWEST { Some(n) } else { None }
+}
+
+/// A budget in bytes: 1,048,576 to 4,294,967,296.
+pub fn budget_of(word: &str) -> Option<u64>
+    ensures number { result ≡ budget_of word.now }
+    ensures within { IfSome result (λ n. n ≤ MOST_BUDGET) }
+{
+    let n = match number_of(word, MOST_BUDGET) {
+        Some(n) => n,
+        None => return None,
+    };
+    if n >= LEAST_BUDGET { Some(n) } else { None }
 }
 
 /// The tile of a zoom, a column and a row: the zoom is at most 26, column and row are below 2^zoom.

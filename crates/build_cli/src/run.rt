@@ -1,4 +1,5 @@
-ghost use Rattle.std.specs.Prelude.{◌≡◌, map, string_bytes};
+ghost use Rattle.std.specs.Prelude.{◌≡◌, ◌≤◌, map, string_bytes};
+ghost use Rattle.build_cli.specs.declared.number.TheConstants.{MOST_BUDGET};
 ghost use Rattle.build_one.specs.Answers.{BuildAnswers};
 ghost use Rattle.tile_model.specs.Objects.{one_lane};
 ghost use Rattle.tile_model.specs.From.{IsAlone};
@@ -19,13 +20,14 @@ use std::alloc::Global;
 use tb_outside::{Lane, Sink, Source, Spill};
 
 /// Works one command on one lane, and answers its status: 0 done, 2 no command, 3 the profile is refused, 4 the extract is
-/// damaged, 7 a source failed, 8 the spool failed, 9 a sink failed, 10 want of memory, 11 the archive has a fault, 13 not built
-/// yet.
+/// damaged, 5 the budget is too small, 7 a source failed, 8 the lane's spill or the spool failed or gave back something else, 9 a
+/// sink failed, 10 want of memory, 11 the archive has a fault, 12 the extract changed.
 ///
 /// The console gets the text of success, or the line of the refusal. `check` and `show` read the archive by the lane's reader,
 /// and use nothing else. Of a build the archive's sink gets nothing before all tiles stand in the spool, so it holds the whole archive
-/// (status 0, and 9 where only the console failed), a prefix of it (8 and 9), or nothing new. `gen` appends its extract to that sink
-/// frame after frame and uses nothing else, so it holds the whole extract (status 0, and 9 where only the console failed), or a prefix.
+/// (status 0, and 9 where only the console failed), a prefix of it (8 and 9), or nothing new. Its items stand in the lane's spill as
+/// sorted runs first. `gen` appends its extract to the archive's sink frame after frame and uses nothing else, so that holds the whole
+/// extract (status 0, and 9 where only the console failed), or a prefix.
 pub fn run_one<R: Source, S: Spill, K: Sink>(
     alloc: Global,
     words: &[String],
@@ -38,13 +40,12 @@ pub fn run_one<R: Source, S: Spill, K: Sink>(
     ensures answers { Answers (map (λ word. string_bytes word) words.now)
         (one_lane R.seen R.seen S.seen K.seen profile.old lane.old spool.old archive.old)
         (one_lane R.seen R.seen S.seen K.seen profile.new lane.new spool.new archive.new) (K.seen console.old) (K.seen console.new) result }
-    ensures spill { lane.new.spill ≡ lane.old.spill }
-    ensures unused { Leaves (command_of (map (λ word. string_bytes word) words.now)) (profile.new ≡ profile.old) (lane.new.reader ≡ lane.old.reader) (spool.new ≡ spool.old) (archive.new ≡ archive.old) }
+    ensures unused { Leaves (command_of (map (λ word. string_bytes word) words.now)) (profile.new ≡ profile.old) (lane.new.reader ≡ lane.old.reader) (lane.new.spill ≡ lane.old.spill) (spool.new ≡ spool.old) (archive.new ≡ archive.old) }
 {
     match command_of(words) {
         None => refuse(console, Refusal::Words),
-        Some(Command::Build { rules, .. }) => {
-            let ended = build_by(alloc, rules, profile, lane, spool, archive);
+        Some(Command::Build { rules, budget, .. }) => {
+            let ended = build_by(alloc, rules, profile, lane, spool, archive, budget);
             tell_build(console, ended)
         }
         Some(Command::Check { .. }) => {
@@ -70,15 +71,16 @@ fn build_by<R: Source, S: Spill, K: Sink>(
     lane: &mut Lane<R, S>,
     spool: &mut S,
     archive: &mut K,
+    budget: u64,
 ) -> Result<Totals, Stop>
     requires keyed { IsKeyed (seen_rules rules) }
-    ensures answers { BuildAnswers (source_of (seen_rules rules.entry)) (one_lane R.seen R.seen S.seen K.seen profile.old lane.old spool.old archive.old)
+    requires budget { budget ≤ MOST_BUDGET }
+    ensures answers { BuildAnswers (source_of (seen_rules rules.entry)) budget (one_lane R.seen R.seen S.seen K.seen profile.old lane.old spool.old archive.old)
         (one_lane R.seen R.seen S.seen K.seen profile.new lane.new spool.new archive.new) result }
     ensures alone { IsAlone (source_of (seen_rules rules.entry)) → profile.new ≡ profile.old }
-    ensures spill { lane.new.spill ≡ lane.old.spill }
 {
     match source_of(alloc, rules) {
-        Ok(from) => build(alloc, from, profile, lane, spool, archive),
+        Ok(from) => build(alloc, from, profile, lane, spool, archive, budget),
         Err(_) => Err(Stop::Memory),
     }
 }

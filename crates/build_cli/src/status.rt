@@ -30,11 +30,13 @@ pub fn status_of(refusal: Refusal) -> u8
     match refusal {
         Refusal::Words => 2,
         Refusal::Stopped(Stop::Profile { .. }) => 3,
-        Refusal::Stopped(Stop::NotYet) => 13,
+        Refusal::Stopped(Stop::Budget { .. }) => 5,
         Refusal::Stopped(Stop::Source(_)) => 7,
         Refusal::Stopped(Stop::Spill(_)) => 8,
+        Refusal::Stopped(Stop::Outside { .. }) => 8,
         Refusal::Stopped(Stop::Damage(_)) => 4,
         Refusal::Stopped(Stop::Sink) => SINK_FAILED,
+        Refusal::Stopped(Stop::Changed { .. }) => 12,
         Refusal::Stopped(Stop::Memory) => 10,
         Refusal::Faulty(_) => 11,
     }

@@ -6,6 +6,7 @@ ghost use Rattle.build_cli.specs.Command.{command_of};
 ghost use Rattle.build_cli.specs.Told.{due_of};
 
 mod again;
+mod budget;
 mod damage;
 mod edges;
 mod failing;
@@ -16,6 +17,7 @@ mod maps;
 mod places;
 mod profiles;
 mod relations;
+mod untold;
 mod ways;
 mod wide;
 mod words;
@@ -33,13 +35,14 @@ const HEADER: &[u8] = b"\x00\x00\x00\x0d\x0a\x09OSMHeader\x18\x02\x0a\x00";
 const CAFE: &[u8] =
     b"\x00\x00\x00\x0d\x0a\x09OSMHeader\x18\x02\x0a\x00\x00\x00\x00\x0b\x0a\x07OSMData\x18\x25\x0a\x23\x0a\x11\x0a\x00\x0a\x07amenity\x0a\x04cafe\x12\x0e\x0a\x0c\x08\x02\x12\x01\x01\x1a\x01\x02\x40\x00\x48\x00";
 
-// Runs the words of a command with a reader and two sinks in memory. That they tell their content shows in the clause:
-// with status 0 the archive's sink has the archive's text more.
+// Runs the words of a command with a reader, a spill, a spool and two sinks in memory. That they tell their content shows in the
+// clause: with status 0 the archive's sink has the archive's text more.
 fn run(
     alloc: Global,
     words: &[String],
     profile: MemSource,
     reader: MemSource,
+    spill: MemSpill,
     spool: MemSpill,
     archive: &mut MemSink,
     console: &mut MemSink,
@@ -48,7 +51,6 @@ fn run(
 {
     let mut profile = profile;
     let mut spool = spool;
-    let spill = MemSpill::new(alloc, Vec::new(alloc))?;
     let mut lane = Lane { reader, spill };
     Ok(run_one(
         alloc,
@@ -70,11 +72,12 @@ fn words_for(alloc: Global, name: &str, first: &str) -> Result<Vec<String>, Memo
     Ok(words)
 }
 
-/// Which calls of the sources, of the spool and of the sinks fail, and how many bytes the archive's sink takes.
+/// Which calls of the sources, of the spill, of the spool and of the sinks fail, and how many bytes the archive's sink takes.
 #[derive(Clone, Copy)]
 struct Faults<'a> {
     profile: &'a [u64],
     reader: &'a [u64],
+    spill: &'a [u64],
     spool: &'a [u64],
     archive: &'a [u64],
     console: &'a [u64],
@@ -84,6 +87,7 @@ struct Faults<'a> {
 const NONE: Faults<'static> = Faults {
     profile: &[],
     reader: &[],
+    spill: &[],
     spool: &[],
     archive: &[],
     console: &[],
@@ -122,6 +126,7 @@ fn run_words(
 ) -> Result<Ran, Memory> {
     let profile = reader_of(alloc, profile, faults.profile)?;
     let reader = reader_of(alloc, extract, faults.reader)?;
+    let spill = MemSpill::new(alloc, Vec::from_slice(alloc, faults.spill)?)?;
     let spool = MemSpill::new(alloc, Vec::from_slice(alloc, faults.spool)?)?;
     let mut archive = sink_of(alloc, faults.room, faults.archive)?;
     let mut console = sink_of(alloc, 200, faults.console)?;
@@ -130,6 +135,7 @@ fn run_words(
         words,
         profile,
         reader,
+        spill,
         spool,
         &mut archive,
         &mut console,

@@ -5,8 +5,6 @@ use Rattle.std.proofs.lemmas.Bool.{lt-ltb}
 use Rattle.std.proofs.lemmas.Grind.{flat_map-append}
 use Rattle.tb_types.specs.declared.damage.Damage.{Damage}
 use Rattle.pbf_blobs.specs.declared.block.BlockAt.{BlockAt}
-use Rattle.pbf_blobs.specs.declared.stop.ScanStop.{ScanStop}
-use Rattle.pbf_blobs.specs.declared.stop.ScanStop.TheVariants as stops
 use Rattle.osm_elements.specs.declared.element.Block.{Block}
 use Rattle.osm_elements.specs.declared.element.NodeEl.{NodeEl}
 use Rattle.osm_elements.specs.declared.element.RelEl.{RelEl}
@@ -28,7 +26,6 @@ use Rattle.node_store.specs.Order.{located_join, shaped_join}
 use Rattle.mvt_codec.specs.declared.item.RunItem.{RunItem}
 use Rattle.tile_model.specs.Contents.{Content, header, elements, unread, contents_at}
 use Rattle.tile_model.specs.Extract.{all_nodes, all_ways, all_refs, features_of, is_kept, is_some_list, location_of, shape_of, needed_refs}
-use Rattle.tile_model.specs.Items.{AreSound, Gains}
 use Rattle.tile_model.specs.Map.{block_in, blocks_in}
 use Rattle.tile_model.specs.Points.{node_features, block_points, points_of}
 use Rattle.tile_model.specs.Relations.{way_ids, relation_shape, relation_origin, relation_features, relations_of}
@@ -36,16 +33,19 @@ use Rattle.tile_model.specs.Rows.{form_feature}
 use Rattle.tile_model.specs.Tiles.{feature_items, emitted_items}
 use Rattle.tile_model.specs.Ways.{way_features, block_ways, ways_of}
 use Rattle.pass_shapes.specs.Stores.{locate_in, is_needed, located_in, shape_in, shaped_in}
-use Rattle.pass_shapes.proofs.Gaining.{gains-both}
 use Rattle.pass_shapes.proofs.Locating.{ways-located}
-use Rattle.pass_shapes.proofs.Shaping.{kept-shaped}
-use Rattle.pass_shapes.specs.Kept.{kept_features}
+use Rattle.pass_shapes.proofs.Shaping.{kept-shaped, members-shaped, same-needs}
+use Rattle.pass_shapes.specs.Kept.{kept_features, needs_of}
 use Rattle.pass_survey.specs.Kept.{kept_of, kept_in, all_kept}
 use Rattle.build_one.specs.declared.found.Found.{Found}
-use Rattle.build_one.specs.declared.nodes.Placed.{Placed}
-use Rattle.build_one.specs.declared.ways.Drawn.{Drawn}
 use Rattle.build_one.specs.Found.{HasSurveyed, has_nodes, has_ways}
-use Rattle.build_one.specs.Passes.{as_content, AreMembers, AreNeeded, ArePlaced, AreDrawn, Gathers, Reads}
+use Rattle.tb_types.specs.Needs.{relation_need}
+use Rattle.member_sets.specs.declared.kept.KeptRelation.{KeptRelation}
+use Rattle.node_store.specs.declared.shaped.Shaped.{Shaped}
+use Rattle.tile_model.specs.Needs.{member_points, relation_needs}
+use Rattle.std.specs.List.{AllByRecursion}
+use Rattle.std.proofs.lemmas.List.{map-append}
+use Rattle.build_one.specs.Passes.{as_content, AreMembers, AreNeeded, needs_in, OfSurveyed}
 use Rattle.build_one.specs.Survey.{IsApart}
 
 -- blocks that were read are those of their contents
@@ -119,70 +119,74 @@ module _ (parts : Parts) (shape_at : OsmId → Option WayShape) where
   kept-all [] = refl
   kept-all (b ∷ blocks) = flat_map-append (kept_features parts shape_at) (kept_in parts b.0 b.1.relations) (all_kept parts blocks) ∙ (λ i. kept-block b.0 b.1.relations i ++ kept-all blocks i)
 
--- by what the passes read, which are the blocks with ways, those with nodes, and those with ways again
+-- and so are their needs
+module _ (parts : Parts) (shape_at : OsmId → Option WayShape) where
+  abbrev of-relation : RelEl → ℕ
+  of-relation r = relation_need (member_points shape_at (way_ids r.members))
+
+  needs-in : (block : ℕ) (relations : List RelEl) → needs_of shape_at (map (kept_of parts block) relations) ≡ map of-relation relations
+  needs-in block [] = refl
+  needs-in block (r ∷ relations) = ap (λ ns. of-relation r ∷ ns) (needs-in block relations)
+
+  pub needs-all : (blocks : List (ℕ × Block)) → needs_of shape_at (all_kept parts blocks) ≡ relation_needs parts shape_at blocks
+  needs-all [] = refl
+  needs-all (b ∷ blocks) = map-append (λ (k : KeptRelation). relation_need (member_points shape_at k.members)) (kept_in parts b.0 b.1.relations) (all_kept parts blocks)
+      ∙ (λ i. needs-in b.0 (filter (is_kept parts) b.1.relations) i ++ needs-all blocks i)
+
+-- By what the passes read, which are the blocks with ways, those with nodes, and those with ways again: the stores, the features and
+-- the needs are those of the extract.
 module _ (parts : Parts) (found : Found) (extract : List ℕ) (contents : List Content) (h : HasSurveyed parts extract found contents) (apart : IsApart parts contents) where
-  pub gathered : (ways needed : List (Entry units.Unit)) (placed : Placed) (drawn : Drawn) (items : List RunItem) (one two three : List (ℕ × Block)) → AreMembers found.kept.items ways
-      → AreNeeded parts ways needed one → contents_at extract found.ways.items ≡ Ok (map as_content one)
-      → ArePlaced parts needed placed two → contents_at extract found.nodes.items ≡ Ok (map as_content two)
-      → AreDrawn parts ways placed.locations placed.items.items drawn three → contents_at extract found.ways.items ≡ Ok (map as_content three)
-      → Gains parts (emitted_items (flat_map (kept_features parts (shape_in drawn.shapes)) found.kept.items)) drawn.items.items items
-      → IsPermutation (emitted_items (features_of parts (blocks_in contents))) items
-  gathered ways needed placed drawn items one two three m n n-told p p-told d d-told r =
-      let blocks = blocks_in contents in
-      let store = placed.locations in
-      let one-is = same-contents extract found.ways.items one (filter has_ways contents) h.ways n-told in
-      let two-is = same-contents extract found.nodes.items two (filter has_nodes contents) h.nodes p-told in
-      let three-is = same-contents extract found.ways.items three (filter has_ways contents) h.ways d-told in
-      let nodes-apart = pairs_from_AllPairs _ (all_nodes blocks) apart.places in
-      let ways-apart = pairs_from_AllPairs _ (all_ways blocks) apart.ways in
-      let refs : all_refs parts (is_needed ways) one ≡ all_refs parts (is_needed ways) blocks = ap (all_refs parts (is_needed ways)) one-is ∙ refs-skipped parts ways contents in
-      let set : IsJoinOf n.0 (entries_of (all_refs parts (is_needed ways) blocks)) needed = subst (λ ids. IsJoinOf n.0 (entries_of ids) needed) refs n.1 in
-      let puts = ap (flat_map (λ (b : ℕ × Block). located_in needed b.0 b.1.nodes)) two-is ∙ located-skipped needed contents in
-      let stored : IsJoinOf located_join (flat_map (λ (b : ℕ × Block). located_in needed b.0 b.1.nodes) blocks) store = subst (λ es. IsJoinOf located_join es store) puts p.store in
-      let shapes-put = ap (flat_map (λ (b : ℕ × Block). shaped_in ways (locate_in store) b.0 b.1.ways)) three-is ∙ shaped-skipped ways (locate_in store) contents in
-      let shapes : IsJoinOf shaped_join (flat_map (λ (b : ℕ × Block). shaped_in ways (locate_in store) b.0 b.1.ways) blocks) drawn.shapes = subst (λ es. IsJoinOf shaped_join es drawn.shapes) shapes-put d.shapes in
-      let points : points_of parts two ≡ points_of parts blocks = ap (points_of parts) two-is ∙ points-skipped parts contents in
-      let lines : ways_of parts (locate_in store) three ≡ ways_of parts (location_of blocks) blocks =
-      ap (ways_of parts (locate_in store)) three-is ∙ (ways-skipped parts store contents ∙ ways-located parts (is_needed ways) n.0 blocks needed store nodes-apart set stored) in
-      let areas : flat_map (kept_features parts (shape_in drawn.shapes)) found.kept.items ≡ relations_of parts (shape_of blocks) blocks =
-      kept-shaped parts m.0 n.0 blocks found.kept.items ways needed store drawn.shapes nodes-apart ways-apart m.1 set stored shapes ∙ (ap (flat_map (kept_features parts (shape_of blocks))) h.kept ∙ kept-all parts (shape_of blocks) blocks) in
-      let made : List RunItem = emitted_items (points_of parts two) ++ (emitted_items (ways_of parts (locate_in store) three) ++ emitted_items (flat_map (kept_features parts (shape_in drawn.shapes)) found.kept.items)) in
-      let all : emitted_items (features_of parts blocks) ≡ made =
-      flat_map-append feature_items (points_of parts blocks) (ways_of parts (location_of blocks) blocks ++ relations_of parts (shape_of blocks) blocks)
-      ∙ (ap (λ xs. emitted_items (points_of parts blocks) ++ xs) (flat_map-append feature_items (ways_of parts (location_of blocks) blocks) (relations_of parts (shape_of blocks) blocks))
-      ∙ sym (λ i. emitted_items (points i) ++ (emitted_items (lines i) ++ emitted_items (areas i)))) in
-      let gains = gains-both parts _ _ [] placed.items.items items p.items (gains-both parts _ _ placed.items.items drawn.items.items items d.items r) in
-      subst (λ xs. IsPermutation xs items) (sym all) (subst (IsPermutation made) (sym gains.adds) gains.same)
+  module _ (ways needed : List (Entry units.Unit)) (store : List (Entry Located)) (shapes : List (Entry Shaped)) (one two three : List (ℕ × Block)) (m : AreMembers found.kept.items ways)
+      (n : AreNeeded parts ways needed one) (n-told : contents_at extract found.ways.items ≡ Ok (map as_content one))
+      (p : IsJoinOf located_join (flat_map (λ (b : ℕ × Block). located_in needed b.0 b.1.nodes) two) store) (p-told : contents_at extract found.nodes.items ≡ Ok (map as_content two))
+      (d : IsJoinOf shaped_join (flat_map (λ (b : ℕ × Block). shaped_in ways (locate_in store) b.0 b.1.ways) three) shapes) (d-told : contents_at extract found.ways.items ≡ Ok (map as_content three)) where
+    abbrev blocks : List (ℕ × Block)
+    blocks = blocks_in contents
+
+    two-is : two ≡ blocks_in (filter has_nodes contents)
+    two-is = same-contents extract found.nodes.items two (filter has_nodes contents) h.nodes p-told
+
+    three-is : three ≡ blocks_in (filter has_ways contents)
+    three-is = same-contents extract found.ways.items three (filter has_ways contents) h.ways d-told
+
+    set : IsJoinOf n.0 (entries_of (all_refs parts (is_needed ways) blocks)) needed
+    set = subst (λ ids. IsJoinOf n.0 (entries_of ids) needed)
+        (ap (all_refs parts (is_needed ways)) (same-contents extract found.ways.items one (filter has_ways contents) h.ways n-told) ∙ refs-skipped parts ways contents) n.1
+
+    stored : IsJoinOf located_join (flat_map (λ (b : ℕ × Block). located_in needed b.0 b.1.nodes) blocks) store
+    stored = subst (λ es. IsJoinOf located_join es store) (ap (flat_map (λ (b : ℕ × Block). located_in needed b.0 b.1.nodes)) two-is ∙ located-skipped needed contents) p
+
+    shapes-put : IsJoinOf shaped_join (flat_map (λ (b : ℕ × Block). shaped_in ways (locate_in store) b.0 b.1.ways) blocks) shapes
+    shapes-put = subst (λ es. IsJoinOf shaped_join es shapes) (ap (flat_map (λ (b : ℕ × Block). shaped_in ways (locate_in store) b.0 b.1.ways)) three-is ∙ shaped-skipped ways (locate_in store) contents) d
+
+    members : AllByRecursion (λ (k : KeptRelation). AllByRecursion (λ id. shape_in shapes id ≡ shape_of blocks id) k.members) found.kept.items
+    members = members-shaped parts m.0 n.0 blocks found.kept.items ways needed store shapes (pairs_from_AllPairs _ (all_nodes blocks) apart.places) (pairs_from_AllPairs _ (all_ways blocks) apart.ways) m.1 set stored shapes-put
+
+    pub gathered-needs : needs_of (shape_in shapes) found.kept.items ≡ needs_in parts contents
+    gathered-needs = same-needs parts (shape_in shapes) (shape_of blocks) found.kept.items members ∙ (ap (needs_of (shape_of blocks)) h.kept ∙ needs-all parts (shape_of blocks) blocks)
+
+    points : points_of parts two ≡ points_of parts blocks
+    points = ap (points_of parts) two-is ∙ points-skipped parts contents
+
+    lines : ways_of parts (locate_in store) three ≡ ways_of parts (location_of blocks) blocks
+    lines = ap (ways_of parts (locate_in store)) three-is ∙ (ways-skipped parts store contents ∙ ways-located parts (is_needed ways) n.0 blocks needed store (pairs_from_AllPairs _ (all_nodes blocks) apart.places) set stored)
+
+    areas : flat_map (kept_features parts (shape_in shapes)) found.kept.items ≡ relations_of parts (shape_of blocks) blocks
+    areas = kept-shaped parts blocks found.kept.items shapes members ∙ (ap (flat_map (kept_features parts (shape_of blocks))) h.kept ∙ kept-all parts (shape_of blocks) blocks)
+
+    pub gathered-items : emitted_items (features_of parts blocks) ≡ emitted_items (points_of parts two) ++ (emitted_items (ways_of parts (locate_in store) three) ++ emitted_items (flat_map (kept_features parts (shape_in shapes)) found.kept.items))
+    gathered-items = flat_map-append feature_items (points_of parts blocks) (ways_of parts (location_of blocks) blocks ++ relations_of parts (shape_of blocks) blocks)
+        ∙ (ap (λ xs. emitted_items (points_of parts blocks) ++ xs) (flat_map-append feature_items (ways_of parts (location_of blocks) blocks) (relations_of parts (shape_of blocks) blocks))
+        ∙ sym (λ i. emitted_items (points i) ++ (emitted_items (lines i) ++ emitted_items (areas i))))
 
 -- a pass finds no damage where the survey found none
 no-damage : (extract : List ℕ) (blocks : List BlockAt) (contents : List Content) (damage : Damage) → contents_at extract blocks ≡ Ok contents → contents_at extract blocks ≡ Err damage → ⊥
 no-damage extract blocks contents damage h k = let no = sym h ∙ k in absurd cc
 
--- the passes over blocks with ways, or with nodes, are refused
-pub refused-ways : {A : Type 0} (P : A → List (ℕ × Block) → Type 0) (parts : Parts) (found : Found) (told : Option (List ℕ)) (stop : ScanStop) → Reads P found.ways.items told (Err stop) → IfSome told (λ extract. Gathers parts extract found (Err stop))
-refused-ways P parts found None stop r = tt
-refused-ways P parts found (Some extract) (stops.Damage damage) r = λ contents h. no-damage extract found.ways.items (filter has_ways contents) damage h.ways r
-refused-ways P parts found (Some extract) stops.Failed r = tt
-refused-ways P parts found (Some extract) stops.Memory r = tt
+pub damaged-ways : (parts : Parts) (found : Found) (told : Option (List ℕ)) (damage : Damage) → IfSome told (λ extract. contents_at extract found.ways.items ≡ Err damage) → OfSurveyed parts told found (λ contents. ⊥)
+damaged-ways parts found None damage r = tt
+damaged-ways parts found (Some extract) damage r = λ contents h apart. no-damage extract found.ways.items (filter has_ways contents) damage h.ways r
 
-pub refused-nodes : {A : Type 0} (P : A → List (ℕ × Block) → Type 0) (parts : Parts) (found : Found) (told : Option (List ℕ)) (stop : ScanStop) → Reads P found.nodes.items told (Err stop) → IfSome told (λ extract. Gathers parts extract found (Err stop))
-refused-nodes P parts found None stop r = tt
-refused-nodes P parts found (Some extract) (stops.Damage damage) r = λ contents h. no-damage extract found.nodes.items (filter has_nodes contents) damage h.nodes r
-refused-nodes P parts found (Some extract) stops.Failed r = tt
-refused-nodes P parts found (Some extract) stops.Memory r = tt
-
--- all passes came to their end
-pub gathers : (parts : Parts) (found : Found) (told : Option (List ℕ)) (ways needed : List (Entry units.Unit)) (placed : Placed) (drawn : Drawn) (items : List RunItem) → AreMembers found.kept.items ways
-    → Reads (λ needed read. AreNeeded parts ways needed read) found.ways.items told (Ok needed) → Reads (λ placed read. ArePlaced parts needed placed read) found.nodes.items told (Ok placed)
-    → Reads (λ drawn read. AreDrawn parts ways placed.locations placed.items.items drawn read) found.ways.items told (Ok drawn)
-    → Gains parts (emitted_items (flat_map (kept_features parts (shape_in drawn.shapes)) found.kept.items)) drawn.items.items items → IfSome told (λ extract. Gathers parts extract found (Ok items))
-gathers parts found None ways needed placed drawn items m one two three r = tt
-gathers parts found (Some extract) ways needed placed drawn items m one two three r = λ contents h apart.
-    gathered parts found extract contents h apart ways needed placed drawn items one.0 two.0 three.0 m one.1 one.2 two.1 two.2 three.1 three.2 r
-
--- what was gathered is sound
-pub gathers-sound : (parts : Parts) (ways needed : List (Entry units.Unit)) (placed : Placed) (drawn : Drawn) (nodes with : List BlockAt) (told later : Option (List ℕ)) (wanted items : List RunItem) → Reads (λ placed read. ArePlaced parts needed placed read) nodes told (Ok placed)
-    → Reads (λ drawn read. AreDrawn parts ways placed.locations placed.items.items drawn read) with later (Ok drawn) → Gains parts wanted drawn.items.items items → AreSound parts items
-gathers-sound parts ways needed placed drawn nodes with told later wanted items two three r =
-    let all = gains-both parts _ _ [] placed.items.items items two.1.items (gains-both parts _ _ placed.items.items drawn.items.items items three.1.items r) in
-    subst (AreSound parts) (sym all.adds) all.sound
+pub damaged-nodes : (parts : Parts) (found : Found) (told : Option (List ℕ)) (damage : Damage) → IfSome told (λ extract. contents_at extract found.nodes.items ≡ Err damage) → OfSurveyed parts told found (λ contents. ⊥)
+damaged-nodes parts found None damage r = tt
+damaged-nodes parts found (Some extract) damage r = λ contents h apart. no-damage extract found.nodes.items (filter has_nodes contents) damage h.nodes r

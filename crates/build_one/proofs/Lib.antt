@@ -1,14 +1,19 @@
 pub mod Adding
 pub mod Apart
 pub mod Backs
+pub mod BlockNeeds
 pub mod Boxes
+pub mod Building
 pub mod Builds
 pub mod Causes
 pub mod Completeness
 pub mod Loading
 pub mod MapDue
+pub mod Mapping
 pub mod Gathering
+pub mod Gathered
 pub mod Metas
+pub mod OneLane
 pub mod Passes
 pub mod Passing
 pub mod Surveying
@@ -18,4 +23,5 @@ pub mod Tiling
 pub mod Valid
 pub mod WorkedArchives
 pub mod WorkedRows
-pub mod Writes
+pub mod Kept
+pub mod Runs

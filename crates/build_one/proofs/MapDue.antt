@@ -1,205 +1,308 @@
 -- The map that is written is the one that is due.
-use Rattle.std.proofs.Common.{◌≡◌, ℕ, ◌≤◌, ◌<◌, ◌^◌, true, false, cond, Option, None, Some, IfSome, Result, Ok, Err, List, length, refl, sym, ap, subst, ◌∙◌, arith, inl, inr}
-use Rattle.std.specs.List.Sorted.{IsPermutation}
-use Rattle.std.proofs.lemmas.List.Sorted.{IsPermutation-refl, IsPermutation-trans}
+use Rattle.std.proofs.Common.{◌≡◌, ℕ, zero, suc, ◌≤◌, ◌<◌, ◌^◌, Option, None, Some, IfSome, IsSome, option_and_then, Result, Ok, Err, List, [], ◌∷◌, length, refl, sym, ap, subst, ◌∙◌, arith, inl, inr}
 use Rattle.tb_types.specs.declared.location.Bounds.{Bounds}
-use Rattle.tb_outside.specs.Spill.{SpillSeen, Runs}
+use Rattle.tb_types.specs.declared.trouble.Stage.TheVariants as stages
+use Rattle.tb_types.specs.declared.trouble.Whom.{Whom}
+use Rattle.tb_types.specs.declared.trouble.Whom.TheVariants as whom
 use Rattle.tb_types.specs.Counts.{Rose}
+use Rattle.tb_outside.specs.Spill.{SpillSeen, Runs}
 use Rattle.tb_outside.specs.Sink.{SinkSeen, with_more, GrowsByPrefix}
 use Rattle.profile_rules.specs.declared.parts.Parts.{Parts}
 use Rattle.profile_rules.specs.Sound.{IsSound}
-use Rattle.sorted_lists.specs.Sorting.{KeysDiffer}
-use Rattle.sorted_lists.specs.Grouping.{grouped_by}
 use Rattle.mvt_codec.specs.declared.item.RunItem.{RunItem}
 use Rattle.pmtiles_dirs.specs.declared.meta.Meta.{Meta}
+use Rattle.pmtiles_dirs.specs.declared.totals.Totals.{Totals}
 use Rattle.pmtiles_dirs.specs.Archive.{archive_text}
 use Rattle.pmtiles_dirs.specs.Back.{read_back}
 use Rattle.pmtiles_dirs.specs.Contents.{Tile, entries_of}
-use Rattle.pmtiles_dirs.specs.declared.totals.Totals.{Totals}
 use Rattle.pmtiles_file.specs.declared.finish_err.FinishErr.{FinishErr}
 use Rattle.pmtiles_file.specs.declared.finish_err.FinishErr.TheVariants as finish_errors
 use Rattle.pmtiles_file.specs.Finished.{FinishAnswers}
 use Rattle.pmtiles_file.specs.Finished as finished
 use Rattle.pmtiles_file.specs.Spool.{KeepsEnded}
 use Rattle.pmtiles_file.specs.Writing.{WriterSeen}
-use Rattle.tile_model.specs.Features.{name_of}
-use Rattle.tile_model.specs.Keys.{tile_of}
-use Rattle.tile_model.specs.Tiles.{built_tiles, built_items, emitted_items}
-use Rattle.tile_model.proofs.Proved as laws
-use Rattle.osm_elements.specs.declared.element.Block.{Block}
+use Rattle.run_merge.specs.declared.merge_err.MergeErr.{MergeErr}
+use Rattle.run_merge.specs.declared.merge_err.MergeErr.TheVariants as errors
+use Rattle.run_merge.specs.declared.named_run.Store.{Store}
+use Rattle.run_merge.specs.declared.named_run.Store.TheVariants as stores
+use Rattle.run_merge.specs.Objects.{Objects, AllTell, NoneRose, OnlyRose, spill_of, whom_of}
 use Rattle.tile_model.specs.declared.stop.Stop.{Stop}
 use Rattle.tile_model.specs.declared.stop.Stop.TheVariants as stops
-use Rattle.build_one.specs.declared.stop.TileStop.{TileStop}
-use Rattle.build_one.specs.declared.stop.TileStop.TheVariants as tile_stops
-use Rattle.build_one.specs.Answers.{OnBuilt, IfTold}
 use Rattle.tile_model.specs.Bounds.{first_box}
+use Rattle.tile_model.specs.Due.{Due, Built, due_of_groups, if_small, built_of}
 use Rattle.tile_model.specs.Extract.{features_of}
-use Rattle.tile_model.specs.Due.{Due, Built, due_of_tiles, built_of}
-use Rattle.build_one.specs.Made.{IsDueBy, IsKnown, MapWritten}
-use Rattle.tile_model.specs.Map.{blocks_in, layer_names, tile_from, tiles_from, tiles_of, has_giant, meta_of}
+use Rattle.tile_model.specs.Map.{blocks_in, groups_of, layer_names, meta_of, tile_from, tiles_from}
+use Rattle.tile_model.specs.Needs.{first_over}
+use Rattle.tile_model.specs.Objects.{if_told}
+use Rattle.build_one.specs.Answers.{OnBuilt, IfTold, IsDue, MayBuild}
+use Rattle.build_one.specs.Made.{IsDueBy, IsKnown, MapWritten, runs_named}
 use Rattle.build_one.specs.Stages.{stop_of_tiles, stop_of_archive}
-use Rattle.build_one.specs.Writing.{Ordered, HasGiant, MapAnswers, tiles_in}
+use Rattle.build_one.specs.Writing.{Ends, Stays, MapAnswers}
 use Rattle.build_one.proofs.Backs.{few-built}
-use Rattle.tile_model.proofs.Ranges.{all-within}
-use Rattle.build_one.proofs.Tiling.{kept-self, kept-both}
+use Rattle.build_one.proofs.Kept.{kept-self, kept-both}
 
--- items in order, grouped by tile, are the tiles of the features
-grouped-built : (parts : Parts) (blocks : List (ℕ × Block)) (items : List RunItem) → IsSound parts → IsPermutation (emitted_items (features_of parts blocks)) items → KeysDiffer name_of (features_of parts blocks) → (o : Ordered items)
-    → grouped_by tile_of o.sorted ≡ built_tiles (features_of parts blocks) parts.min parts.max
-grouped-built parts blocks items sound has differ o =
-    let features = features_of parts blocks in
-    let few : parts.max ≤ 26 = let last = sound.last in omega (arith, last) in
-    let built : IsPermutation (built_items features parts.min parts.max) (emitted_items features) =
-    laws.build.emitted features features parts.min parts.max few (all-within parts blocks sound) (IsPermutation-refl features) in
-    laws.build.grouped features parts.min parts.max o.sorted few differ (IsPermutation-trans _ _ _ built (IsPermutation-trans _ _ _ has o.same)) o.rises
+-- ---- one lane's spill and the spool, as the merge sees them
 
-tiles-are : (parts : Parts) (items : List RunItem) (box : Option Bounds) (due : Due) → IsSound parts → (by : IsDueBy parts items box due) → (o : Ordered items) → tiles_in (layer_names parts) o.sorted ≡ tiles_of parts by.contents
-tiles-are parts items box due sound by o = ap (tiles_from (layer_names parts)) (grouped-built parts (blocks_in by.contents) items sound by.same by.names o)
+abbrev pub seen_by : {R : Type 0} → List R → SpillSeen → SpillSeen → Objects R
+seen_by readers s o = record { readers = readers; spills = s ∷ []; spool = o }
 
--- what is due where a tile is too large, and where none is
-due-giant : (meta : Meta) (tiles : List Tile) → has_giant tiles ≡ true → due_of_tiles meta tiles ≡ Err stops.NotYet
-due-giant meta tiles h = ap (λ b. cond b (Err stops.NotYet) (Ok (built_of meta tiles))) h
+abbrev pub told_of : SpillSeen → SpillSeen → Option Runs
+told_of s o = if_told (s ∷ []) o.runs
 
-due-built : (meta : Meta) (tiles : List Tile) → has_giant tiles ≡ false → due_of_tiles meta tiles ≡ Ok (built_of meta tiles)
-due-built meta tiles h = ap (λ b. cond b (Err stops.NotYet) (Ok (built_of meta tiles))) h
+all-tell : {R : Type 0} (readers : List R) (s o : SpillSeen) (t u : Runs) → s.runs ≡ Some t → o.runs ≡ Some u → AllTell (seen_by readers s o)
+all-tell readers s o t u e f = by
+  where
+    by : AllTell (seen_by readers s o)
+    by (stores.Lane zero) = subst IsSome (sym e) refl
+    by (stores.Lane (suc k)) = refl
+    by stores.Spool = subst IsSome (sym f) refl
 
--- nothing is told, or it is told
-if-told : (runs : Option Runs) (P : Type 0) → ((told : Runs) → runs ≡ Some told → P) → IfTold runs P
-if-told None P f = tt
-if-told (Some told) P f = f told refl
+-- what holds where both tell
+pub tell-if : {R : Type 0} (readers : List R) (s o : SpillSeen) (P : Type 0) → (AllTell (seen_by readers s o) → (runs : Runs) → o.runs ≡ Some runs → P) → IfTold (told_of s o) P
+tell-if readers s o P f = by s.runs o.runs refl refl
+  where
+    by : (a b : Option Runs) → s.runs ≡ a → o.runs ≡ b → IfTold (option_and_then (λ (told : Runs). b) a) P
+    by None b e g = tt
+    by (Some t) None e g = tt
+    by (Some t) (Some u) e g = f (all-tell readers s o t u e g) u g
 
-if-due : (parts : Parts) (items : List RunItem) (box : Option Bounds) (due : Option Due) (P : Due → Type 0) → IsKnown parts items box due → ((d : Due) → IsDueBy parts items box d → P d) → IfSome due P
-if-due parts items box None P known f = tt
-if-due parts items box (Some d) P known f = f d known
+both-if : (told : Option Runs) (A B : Type 0) → IfTold told A → IfTold told (A → B) → IfTold told B
+both-if None A B h k = tt
+both-if (Some runs) A B h k = k h
+
+if-due : (parts : Parts) (part : ℕ) (told : Option Runs) (groups : List (ℕ × List RunItem)) (box : Option Bounds) (due : Option Due) (P : Due → Type 0) → IsKnown parts part told groups box due → ((d : Due) → IsDueBy parts part told groups box d → P d)
+    → IfSome due P
+if-due parts part told groups box None P known f = tt
+if-due parts part told groups box (Some d) P known f = f d known
 
 any-due : (due : Option Due) → IfSome due (λ d. Unit {0})
 any-due None = tt
 any-due (Some d) = tt
 
+-- what is due by groups is an archive, or the need of a tile
+may-build : (o : Option ℕ) (built : Built) → MayBuild (if_small o built)
+may-build None built = tt
+may-build (Some need) built = refl
+
+-- a count that can't rise
+no-rise : Rose 0 0 → ⊥
+no-rise rose = absurd (omega (arith, rose))
+
+-- the archive's answer is the build's
+abbrev pub IsFinished : Result Totals FinishErr → Result Totals Stop → Type 0
+IsFinished (Ok totals) r = r ≡ Ok totals
+IsFinished (Err e) r = r ≡ Err (stop_of_archive e)
+
 -- memory wants before anything is written
-pub map-early : (due : Option Due) (spool : SpillSeen) (sink : SinkSeen) → MapWritten due spool spool sink sink (Err stops.Memory)
-map-early due spool sink = record {
+pub map-early : (due : Option Due) (s o : SpillSeen) (k : SinkSeen) → MapWritten due s s o o k k (Err stops.Memory)
+map-early due s o k = record {
   told = any-due due;
   written = refl;
   back = tt;
-  counts = (refl, refl);
-  kept = kept-self spool.runs;
+  counts = ((refl, refl), refl);
+  spill_kept = kept-self s.runs;
+  kept = kept-self o.runs;
+  spill_never_falls = omega arith;
   spool_never_falls = omega arith;
   sink_never_falls = omega arith;
 }
 
--- the archive's answer is the build's
-abbrev pub IsFinished : Result Totals FinishErr → Result Totals Stop → Type 0
-IsFinished (Ok totals) s = s ≡ Ok totals
-IsFinished (Err e) s = s ≡ Err (stop_of_archive e)
+module _ {R : Type 0} (parts : Parts) (part : ℕ) (box : Option Bounds) (sound : IsSound parts) (groups : List (ℕ × List RunItem)) (readers later : List R) (s s' o mid : SpillSeen) (due : Option Due)
+    (known : IsKnown parts part (told_of s o) groups box due) (stays : Stays (seen_by readers s o) (seen_by later s' mid)) where
+  abbrev before : Objects R
+  before = seen_by readers s o
 
-module _ (parts : Parts) (items : List RunItem) (box : Option Bounds) (sound : IsSound parts) where
-  giant-due : HasGiant parts items → (d : Due) → IsDueBy parts items box d → d ≡ Err stops.NotYet
-  giant-due giant d by =
-      by.is ∙ due-giant (meta_of parts (first_box by.contents)) (tiles_of parts by.contents) (ap has_giant (sym (tiles-are parts items box d sound by giant.order)) ∙ giant.giant)
+  abbrev after : Objects R
+  after = seen_by later s' mid
 
-  -- the tiles weren't written
-  pub map-refused : (meta : Meta) (due : Option Due) (spool after : SpillSeen) (sink : SinkSeen) (e : TileStop) → MapAnswers parts meta items spool after (Err e) → IsKnown parts items box due
-      → MapWritten due spool after sink sink (Err (stop_of_tiles e))
-  map-refused meta due spool after sink tile_stops.TooLarge a known = record {
-    told = if-due parts items box due (λ d. d ≡ Err stops.NotYet) known (giant-due (a.giant refl));
-    written = refl;
-    back = tt;
-    counts = (a.spool.counts, refl);
-    kept = a.spool.kept;
-    spool_never_falls = a.spool.never_falls;
-    sink_never_falls = omega arith;
-  }
-  map-refused meta due spool after sink tile_stops.Failed a known = record {
+  spill-runs : s'.runs ≡ s.runs
+  spill-runs = let e = stays.spills in cc
+
+  spill-kept : KeepsEnded s.runs s'.runs
+  spill-kept = subst (KeepsEnded s.runs) (sym spill-runs) (kept-self s.runs)
+
+  still : NoneRose before after → (s'.faults ≡ s.faults) × (mid.faults ≡ o.faults)
+  still none = (none (stores.Lane 0), none stores.Spool)
+
+  same-le : (m n : ℕ) → n ≡ m → m ≤ n
+  same-le m n h = omega (arith, h)
+
+  -- ---- the tiles aren't written
+
+  tile-due : (need : ℕ) → (AllTell before → first_over part groups ≡ Some need) → (d : Due) → IsDueBy parts part (told_of s o) groups box d → IfTold (told_of s o) (d ≡ Err (stops.Budget stages.Tile need))
+  tile-due need over d by =
+      both-if (told_of s o) (groups ≡ groups_of parts by.contents) (d ≡ Err (stops.Budget stages.Tile need)) by.same
+      (tell-if readers s o (groups ≡ groups_of parts by.contents → d ≡ Err (stops.Budget stages.Tile need)) (λ tell runs is same.
+      by.is ∙ ap (λ n. if_small n (built_of (meta_of parts (first_box by.contents)) (tiles_from (layer_names parts) (groups_of parts by.contents)))) (ap (first_over part) (sym same) ∙ over tell)))
+
+  spill-refused : (store : Store) (k : SinkSeen) → OnlyRose before after store → MapWritten due s s' o mid k k (Err (stops.Spill (whom_of store)))
+  spill-refused (stores.Lane zero) k only = record {
     told = any-due due;
     written = inl refl;
     back = tt;
-    counts = (a.spool.counts, refl);
-    kept = a.spool.kept;
-    spool_never_falls = a.spool.never_falls;
+    counts = (refl, only.rose, only.others stores.Spool (λ e. absurd cc), refl);
+    spill_kept = spill-kept;
+    kept = stays.spool;
+    spill_never_falls = only.never_falls;
+    spool_never_falls = same-le o.faults mid.faults (only.others stores.Spool (λ e. absurd cc));
     sink_never_falls = omega arith;
   }
-  map-refused meta due spool after sink tile_stops.Memory a known = record {
+  spill-refused (stores.Lane (suc n)) k only = absurd (no-rise only.rose)
+  spill-refused stores.Spool k only = record {
+    told = any-due due;
+    written = inl refl;
+    back = tt;
+    counts = (only.others (stores.Lane 0) (λ e. absurd cc), only.rose, refl);
+    spill_kept = spill-kept;
+    kept = stays.spool;
+    spill_never_falls = same-le s.faults s'.faults (only.others (stores.Lane 0) (λ e. absurd cc));
+    spool_never_falls = only.never_falls;
+    sink_never_falls = omega arith;
+  }
+
+  outside-refused : (store : Store) (run at : ℕ) (k : SinkSeen) → (spill_of before store).runs ≡ None → NoneRose before after → MapWritten due s s' o mid k k (Err (stops.Outside (whom_of store) run at))
+  outside-refused store run at k none counts = record {
     told = any-due due;
     written = refl;
     back = tt;
-    counts = (a.spool.counts, refl);
-    kept = a.spool.kept;
-    spool_never_falls = a.spool.never_falls;
+    counts = (still counts, refl, named store none);
+    spill_kept = spill-kept;
+    kept = stays.spool;
+    spill_never_falls = same-le s.faults s'.faults (still counts).0;
+    spool_never_falls = same-le o.faults mid.faults (still counts).1;
+    sink_never_falls = omega arith;
+  }
+    where
+      named : (store : Store) → (spill_of before store).runs ≡ None → runs_named s o (whom_of store) None
+      named (stores.Lane zero) e = (refl, e)
+      named (stores.Lane (suc n)) e = absurd cc
+      named stores.Spool e = e
+
+  pub map-refused : (meta : Meta) (k : SinkSeen) (e : MergeErr) → MapAnswers parts part meta groups before after (Err e) → MapWritten due s s' o mid k k (Err (stop_of_tiles e))
+  map-refused meta k (errors.Spill w) a = subst (λ (v : Whom). MapWritten due s s' o mid k k (Err (stops.Spill v))) (sym a.ends.1) (spill-refused a.ends.0 k a.ends.2)
+  map-refused meta k (errors.Outside w run at) a = subst (λ (v : Whom). MapWritten due s s' o mid k k (Err (stops.Outside v run at))) (sym a.ends.1) (outside-refused a.ends.0 run at k a.ends.2 a.ends.3)
+  map-refused meta k (errors.TooLarge need) a = record {
+    told = if-due parts part (told_of s o) groups box due (λ d. IfTold (told_of s o) (d ≡ Err (stops.Budget stages.Tile need))) known (tile-due need a.ends.1);
+    written = refl;
+    back = tt;
+    counts = (still a.ends.0, refl);
+    spill_kept = spill-kept;
+    kept = stays.spool;
+    spill_never_falls = same-le s.faults s'.faults (still a.ends.0).0;
+    spool_never_falls = same-le o.faults mid.faults (still a.ends.0).1;
+    sink_never_falls = omega arith;
+  }
+  map-refused meta k errors.Memory a = record {
+    told = any-due due;
+    written = refl;
+    back = tt;
+    counts = (still a.ends, refl);
+    spill_kept = spill-kept;
+    kept = stays.spool;
+    spill_never_falls = same-le s.faults s'.faults (still a.ends).0;
+    spool_never_falls = same-le o.faults mid.faults (still a.ends).1;
     sink_never_falls = omega arith;
   }
 
-  module _ (meta : Meta) (meta_is : meta ≡ meta_of parts box) (due : Option Due) (known : IsKnown parts items box due) (spool mid after : SpillSeen) (sink sink_after : SinkSeen)
-      (w : WriterSeen) (a : MapAnswers parts meta items spool mid (Ok w)) where
-    -- what was written, by contents of which this was found
-    abbrev by-meta : (d : Due) (by : IsDueBy parts items box d) → w.meta ≡ meta_of parts (first_box by.contents)
-    by-meta d by = a.ok.meta_is ∙ (meta_is ∙ ap (meta_of parts) by.box_is)
+  -- ---- they are
 
-    abbrev by-tiles : (d : Due) (by : IsDueBy parts items box d) → tiles_in (layer_names parts) a.ok.order.sorted ≡ tiles_of parts by.contents
-    by-tiles d by = tiles-are parts items box d sound by a.ok.order
-
-    is-built : (d : Due) (by : IsDueBy parts items box d) → d ≡ Ok (built_of w.meta (tiles_in (layer_names parts) a.ok.order.sorted))
-    is-built d by =
-        by.is ∙ (ap (λ m. due_of_tiles m (tiles_of parts by.contents)) (sym (by-meta d by)) ∙ (ap (due_of_tiles w.meta) (sym (by-tiles d by)) ∙ due-built w.meta (tiles_in (layer_names parts) a.ok.order.sorted) a.ok.small))
-
-    on-built : (P : Built → Type 0) → P (built_of w.meta (tiles_in (layer_names parts) a.ok.order.sorted)) → IfSome due (λ d. OnBuilt d P)
-    on-built P h = if-due parts items box due (λ d. OnBuilt d P) known (λ d by. subst (λ x. OnBuilt x P) (sym (is-built d by)) h)
-
-    few : (d : Due) (by : IsDueBy parts items box d) → length (entries_of (tiles_in (layer_names parts) a.ok.order.sorted)) < 2 ^ 35
-    few d by =
-        subst (λ ts. length (entries_of ts) < 2 ^ 35) (sym (by-tiles d by)) (few-built (features_of parts (blocks_in by.contents)) parts.min parts.max (tile_from (layer_names parts)) sound.ordered sound.last)
-
+  module _ (meta : Meta) (meta_is : meta ≡ meta_of parts box) (w : WriterSeen) (a : MapAnswers parts part meta groups before after (Ok w)) (o' : SpillSeen) (k k' : SinkSeen) where
     abbrev tiles : List Tile
-    tiles = tiles_in (layer_names parts) a.ok.order.sorted
+    tiles = tiles_from (layer_names parts) groups
 
-    module _ (r : Result Totals FinishErr) (f : FinishAnswers w mid after sink sink_after r) where
-      abbrev both-kept : KeepsEnded spool.runs after.runs
-      both-kept = kept-both spool.runs mid.runs after.runs a.spool.kept (subst (KeepsEnded mid.runs) (sym f.runs) (kept-self mid.runs))
+    -- what is due, where both tell
+    is-built : (d : Due) (by : IsDueBy parts part (told_of s o) groups box d) → IfTold (told_of s o) (d ≡ Ok (built_of w.meta tiles))
+    is-built d by =
+        both-if (told_of s o) (groups ≡ groups_of parts by.contents) (d ≡ Ok (built_of w.meta tiles)) by.same
+        (tell-if readers s o (groups ≡ groups_of parts by.contents → d ≡ Ok (built_of w.meta tiles)) (λ tell runs is same.
+        let metas : w.meta ≡ meta_of parts (first_box by.contents) = a.ok.meta_is ∙ (meta_is ∙ ap (meta_of parts) by.box_is) in
+        by.is ∙ (ap (λ gs. due_of_groups part (meta_of parts (first_box by.contents)) (layer_names parts) gs) (sym same)
+        ∙ (ap (λ m. due_of_groups part m (layer_names parts) groups) (sym metas) ∙ ap (λ n. if_small n (built_of w.meta tiles)) (a.ends.1 tell)))))
 
-      spool-up : spool.faults ≤ after.faults
-      spool-up = let one = a.spool.never_falls in let two = f.spool_never_falls in omega (arith, one, two)
+    -- what holds of the archive that is due, where both tell
+    on-built : (P : Built → Type 0) → (AllTell before → (runs : Runs) → o.runs ≡ Some runs → P (built_of w.meta tiles)) → IfTold (told_of s o) (IfSome due (λ d. OnBuilt d P))
+    on-built P f = by-due due known
+      where
+        by-due : (due : Option Due) → IsKnown parts part (told_of s o) groups box due → IfTold (told_of s o) (IfSome due (λ d. OnBuilt d P))
+        by-due None known = tell-if readers s o (Unit {0}) (λ tell runs is. tt)
+        by-due (Some d) known =
+            both-if (told_of s o) (d ≡ Ok (built_of w.meta tiles)) (OnBuilt d P) (is-built d known)
+            (tell-if readers s o (d ≡ Ok (built_of w.meta tiles) → OnBuilt d P) (λ tell runs is same. subst (λ x. OnBuilt x P) (sym same) (f tell runs is)))
 
-      prefix-told : (told : Runs) → spool.runs ≡ Some told → finished.Writes r sink.bytes sink_after.bytes (archive_text w.meta tiles)
-      prefix-told told is = let h = a.ok.wrote told is in f.told h.runs tiles h.told h.wrote
+    few : (d : Due) (by : IsDueBy parts part (told_of s o) groups box d) → groups ≡ groups_of parts by.contents → length (entries_of tiles) < 2 ^ 35
+    few d by same = subst (λ gs. length (entries_of (tiles_from (layer_names parts) gs)) < 2 ^ 35) (sym same) (few-built (features_of parts (blocks_in by.contents)) parts.min parts.max (tile_from (layer_names parts)) sound.ordered sound.last)
 
-    map-ok : (totals : Totals) → FinishAnswers w mid after sink sink_after (Ok totals) → MapWritten due spool after sink sink_after (Ok totals)
+    module _ (r : Result Totals FinishErr) (f : FinishAnswers w mid o' k k' r) where
+      both-kept : KeepsEnded o.runs o'.runs
+      both-kept = kept-both o.runs mid.runs o'.runs stays.spool (subst (KeepsEnded mid.runs) (sym f.runs) (kept-self mid.runs))
+
+      spool-up : o.faults ≤ o'.faults
+      spool-up = let one = (still a.ends.0).1 in let two = f.spool_never_falls in omega (arith, one, two)
+
+      spill-up : s.faults ≤ s'.faults
+      spill-up = same-le s.faults s'.faults (still a.ends.0).0
+
+      prefix-told : AllTell before → (runs : Runs) → o.runs ≡ Some runs → finished.Writes r k.bytes k'.bytes (archive_text w.meta tiles)
+      prefix-told tell runs is = let h = a.ok.wrote tell runs is in f.told h.runs tiles h.told h.wrote
+
+    read-again : (totals : Totals) → FinishAnswers w mid o' k k' (Ok totals) → (due : Option Due) → IsKnown parts part (told_of s o) groups box due → IfTold (told_of s o) (IfSome due (λ d. OnBuilt d (λ built. read_back built.bytes ≡ Some built.tiles)))
+    read-again totals f None known = tell-if readers s o (Unit {0}) (λ tell runs is. tt)
+    read-again totals f (Some d) by =
+        both-if (told_of s o) (d ≡ Ok (built_of w.meta tiles)) (OnBuilt d (λ built. read_back built.bytes ≡ Some built.tiles)) (is-built d by)
+        (both-if (told_of s o) (groups ≡ groups_of parts by.contents) (d ≡ Ok (built_of w.meta tiles) → OnBuilt d (λ built. read_back built.bytes ≡ Some built.tiles)) by.same
+        (tell-if readers s o (groups ≡ groups_of parts by.contents → d ≡ Ok (built_of w.meta tiles) → OnBuilt d (λ built. read_back built.bytes ≡ Some built.tiles)) (λ tell runs is same due-is.
+        subst (λ x. OnBuilt x (λ built. read_back built.bytes ≡ Some built.tiles)) (sym due-is) (let h = a.ok.wrote tell runs is in f.back h.runs tiles h.told h.wrote (few d by same)))))
+
+    map-ok : (totals : Totals) → FinishAnswers w mid o' k k' (Ok totals) → MapWritten due s s' o o' k k' (Ok totals)
     map-ok totals f = record {
-      told = on-built (λ built. IfTold spool.runs (totals ≡ built.totals)) (if-told spool.runs _ (λ told is. let h = a.ok.wrote told is in f.totals h.runs tiles h.told h.wrote));
-      written = if-told spool.runs _ (λ told is. on-built (λ built. sink_after.bytes ≡ with_more sink.bytes built.bytes) (prefix-told (Ok totals) f told is));
-      back = if-told spool.runs _ (λ told is. if-due parts items box due (λ d. OnBuilt d (λ built. read_back built.bytes ≡ Some built.tiles)) known
-          (λ d by. subst (λ x. OnBuilt x (λ built. read_back built.bytes ≡ Some built.tiles)) (sym (is-built d by)) (let h = a.ok.wrote told is in f.back h.runs tiles h.told h.wrote (few d by))));
-      counts = (f.counts.0 ∙ a.spool.counts, f.counts.1);
+      told = if-due parts part (told_of s o) groups box due (IsDue (told_of s o) (Ok totals)) known (λ d by. (
+        subst MayBuild (sym by.is) (may-build (first_over part (groups_of parts by.contents)) (built_of (meta_of parts (first_box by.contents)) (tiles_from (layer_names parts) (groups_of parts by.contents)))),
+        both-if (told_of s o) (d ≡ Ok (built_of w.meta tiles)) (OnBuilt d (λ built. totals ≡ built.totals)) (is-built d by)
+            (tell-if readers s o (d ≡ Ok (built_of w.meta tiles) → OnBuilt d (λ built. totals ≡ built.totals)) (λ tell runs is same.
+            subst (λ x. OnBuilt x (λ built. totals ≡ built.totals)) (sym same) (let h = a.ok.wrote tell runs is in f.totals h.runs tiles h.told h.wrote))),
+      ));
+      written = on-built (λ built. k'.bytes ≡ with_more k.bytes built.bytes) (prefix-told (Ok totals) f);
+      back = read-again totals f due known;
+      counts = (((still a.ends.0).0, f.counts.0 ∙ (still a.ends.0).1), f.counts.1);
+      spill_kept = spill-kept;
       kept = both-kept (Ok totals) f;
+      spill_never_falls = spill-up (Ok totals) f;
       spool_never_falls = spool-up (Ok totals) f;
       sink_never_falls = f.sink_never_falls;
     }
 
-    pub map-finished : (r : Result Totals FinishErr) → FinishAnswers w mid after sink sink_after r → (s : Result Totals Stop) → IsFinished r s → MapWritten due spool after sink sink_after s
-    map-finished (Ok totals) f s is = subst (MapWritten due spool after sink sink_after) (sym is) (map-ok totals f)
-    map-finished (Err finish_errors.Memory) f s is = subst (MapWritten due spool after sink sink_after) (sym is) (record {
+    pub map-finished : (r : Result Totals FinishErr) → FinishAnswers w mid o' k k' r → (x : Result Totals Stop) → IsFinished r x → MapWritten due s s' o o' k k' x
+    map-finished (Ok totals) f x is = subst (MapWritten due s s' o o' k k') (sym is) (map-ok totals f)
+    map-finished (Err finish_errors.Memory) f x is = subst (MapWritten due s s' o o' k k') (sym is) (record {
       told = any-due due;
       written = f.counts.1;
       back = tt;
-      counts = (ap (λ (x : SpillSeen). x.faults) f.counts.0 ∙ a.spool.counts, f.counts.1);
+      counts = (((still a.ends.0).0, ap (λ (y : SpillSeen). y.faults) f.counts.0 ∙ (still a.ends.0).1), f.counts.1);
+      spill_kept = spill-kept;
       kept = both-kept (Err finish_errors.Memory) f;
+      spill_never_falls = spill-up (Err finish_errors.Memory) f;
       spool_never_falls = spool-up (Err finish_errors.Memory) f;
       sink_never_falls = f.sink_never_falls;
     })
-    map-finished (Err finish_errors.Spill) f s is = subst (MapWritten due spool after sink sink_after) (sym is) (record {
+    map-finished (Err finish_errors.Spill) f x is = subst (MapWritten due s s' o o' k k') (sym is) (record {
       told = any-due due;
-      written = inr (if-told spool.runs _ (λ told e. on-built (λ built. GrowsByPrefix sink.bytes sink_after.bytes built.bytes) (prefix-told (Err finish_errors.Spill) f told e)));
+      written = inr (on-built (λ built. GrowsByPrefix k.bytes k'.bytes built.bytes) (prefix-told (Err finish_errors.Spill) f));
       back = tt;
-      counts = (subst (λ n. Rose n after.faults) a.spool.counts f.counts.0, f.counts.1);
+      counts = ((still a.ends.0).0, subst (λ n. Rose n o'.faults) (still a.ends.0).1 f.counts.0, f.counts.1);
+      spill_kept = spill-kept;
       kept = both-kept (Err finish_errors.Spill) f;
+      spill_never_falls = spill-up (Err finish_errors.Spill) f;
       spool_never_falls = spool-up (Err finish_errors.Spill) f;
       sink_never_falls = f.sink_never_falls;
     })
-    map-finished (Err finish_errors.Sink) f s is = subst (MapWritten due spool after sink sink_after) (sym is) (record {
+    map-finished (Err finish_errors.Sink) f x is = subst (MapWritten due s s' o o' k k') (sym is) (record {
       told = any-due due;
-      written = if-told spool.runs _ (λ told e. on-built (λ built. GrowsByPrefix sink.bytes sink_after.bytes built.bytes) (prefix-told (Err finish_errors.Sink) f told e));
+      written = on-built (λ built. GrowsByPrefix k.bytes k'.bytes built.bytes) (prefix-told (Err finish_errors.Sink) f);
       back = tt;
-      counts = (f.counts.0 ∙ a.spool.counts, f.counts.1);
+      counts = (((still a.ends.0).0, f.counts.0 ∙ (still a.ends.0).1), f.counts.1);
+      spill_kept = spill-kept;
       kept = both-kept (Err finish_errors.Sink) f;
+      spill_never_falls = spill-up (Err finish_errors.Sink) f;
       spool_never_falls = spool-up (Err finish_errors.Sink) f;
       sink_never_falls = f.sink_never_falls;
     })

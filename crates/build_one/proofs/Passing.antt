@@ -5,10 +5,10 @@ use Rattle.std.proofs.lemmas.List.Elements.{All-get_or}
 use Rattle.tb_types.specs.declared.damage.Damage.{Damage}
 use Rattle.tb_outside.specs.Source.{SourceSeen}
 use Rattle.pbf_blobs.specs.declared.block.BlockAt.{BlockAt}
-use Rattle.pbf_blobs.specs.declared.stop.ScanStop.{ScanStop}
-use Rattle.pbf_blobs.specs.declared.stop.ScanStop.TheVariants as stops
 use Rattle.osm_elements.specs.declared.element.Block.{Block}
 use Rattle.tile_model.specs.Contents.{Content, elements, content_at, contents_at, with_later}
+use Rattle.build_one.specs.declared.stop.PassStop.{PassStop}
+use Rattle.build_one.specs.declared.stop.PassStop.TheVariants as stops
 use Rattle.build_one.specs.Found.{joined, IsOfElements}
 use Rattle.build_one.specs.Passes.{as_content, Loads, Reads}
 use Rattle.build_one.proofs.Surveying.{any_told, map_told, both_told}
@@ -66,7 +66,7 @@ module _ {A : Type 0} (P : A → List (ℕ × Block) → Type 0) (blocks : List 
         (λ extract h. ap (contents_at extract) (sym (take_all i blocks all)) ∙ h) p.told,
   )
 
-  pub passing-refused : {B : Type 0} (Q : B → List (ℕ × Block) → Type 0) (old mid : SourceSeen) (i : ℕ) (d : BlockAt) (x : A) (stop : ScanStop) → i < length blocks → Passing P blocks old mid i x → IfSome mid.bytes (λ extract. Loads extract (get_or blocks i d) (Err stop))
+  pub passing-refused : {B : Type 0} (Q : B → List (ℕ × Block) → Type 0) (old mid : SourceSeen) (i : ℕ) (d : BlockAt) (x : A) (stop : PassStop) → i < length blocks → Passing P blocks old mid i x → IfSome mid.bytes (λ extract. Loads extract (get_or blocks i d) (Err stop))
       → Reads Q blocks old.bytes (Err stop)
   passing-refused Q old mid i d x (stops.Damage damage) more p loads =
       both_told old.bytes
@@ -76,7 +76,8 @@ module _ {A : Type 0} (P : A → List (ℕ × Block) → Type 0) (blocks : List 
       (λ extract all one. ap (contents_at extract) (sym (take-append-drop i blocks) ∙ ap (λ rest. take i blocks ++ rest) (drop_more blocks i d more))
       ∙ contents-damage extract (take i blocks) (drop (i + 1) blocks) (get_or blocks i d) damage (subst IsFine (sym all) tt) one)
       p.told (subst (λ (o : Option (List ℕ)). IfSome o (λ extract. content_at extract (get_or blocks i d) ≡ Err damage)) p.bytes loads)
-  passing-refused Q old mid i d x stops.Failed more p loads = tt
+  passing-refused Q old mid i d x stops.Source more p loads = tt
+  passing-refused Q old mid i d x stops.Spill more p loads = tt
   passing-refused Q old mid i d x stops.Memory more p loads = tt
 
 -- the next block is one of elements

@@ -1,14 +1,21 @@
 -- The tile of items has bytes.
-use Rattle.std.proofs.Common.{◌≡◌, ℕ, ◌+◌, ◌*◌, ◌<◌, ◌≤◌, List, [], ◌∷◌, ◌++◌, length, map, All, sym, ap, subst, ◌∙◌, arith, inl, inr}
+use Rattle.std.proofs.Common.{◌≡◌, ℕ, ◌+◌, ◌*◌, ◌-◌, ◌^◌, ◌<◌, ◌≤◌, min, List, [], ◌∷◌, ◌++◌, length, map, All, sym, ap, subst, ◌∙◌, arith, inl, inr}
 use Rattle.std.proofs.lemmas.Bool.{cases_eq, cond-true, eq-eqb}
 use Rattle.std.proofs.lemmas.List.{length-append}
 use Rattle.std.proofs.lemmas.Grind.{flat_map-append}
-use Rattle.std.proofs.lemmas.List.Elements.{recursion_from_All}
-use Rattle.tile_model.specs.Items.{IsSoundItem}
+use Rattle.std.proofs.lemmas.List.Elements.{recursion_from_All, All-from_recursion, All-weaker}
+use Rattle.tb_types.specs.Needs.{group_need}
+use Rattle.tb_types.specs.declared.attribute.Attr.{Attr}
+use Rattle.mvt_codec.specs.Items.{items_bytes, IsItem, IsNamed}
+use Rattle.mvt_codec.specs.Value.{IsWritable}
+use Rattle.mvt_codec.proofs.TileSizes.{tiles_are_small}
+use Rattle.run_merge.specs.Items.{IsItemOf}
+use Rattle.std.specs.List.{AllByRecursion}
 use Rattle.mvt_codec.specs.declared.row.TileRow.{TileRow}
 use Rattle.mvt_codec.specs.declared.row.LayerRows.{LayerRows}
 use Rattle.mvt_codec.specs.declared.item.RunItem.{RunItem}
-use Rattle.mvt_codec.specs.Groups.{rows_of_layer, slots, layer_of, named, layers_of, text_of_items}
+use Rattle.build_one.specs.Writing.{AreShort}
+use Rattle.mvt_codec.specs.Groups.{IsWritableItem, rows_of_layer, slots, layer_of, named, layers_of, text_of_items}
 use Rattle.mvt_codec.specs.Tile.{tile_text, written, layer_text}
 use Rattle.tb_wire.specs.Message.{len_text}
 use Rattle.tb_wire.specs.Varint.{encoding}
@@ -56,6 +63,27 @@ pub some-text : (names : List (List ℕ)) (x : RunItem) (xs : List RunItem) → 
 unfolding layers_of
 some-text names x xs h = some-from 0 names x xs (omega arith) (omega (arith, h))
 
-pub some-group : (names : List (List ℕ)) (items : List RunItem) → 0 < length items → All (IsSoundItem (length names)) items → 1 ≤ length (text_of_items names items)
-some-group names [] some sound = absurd (omega (arith, some))
-some-group names (x ∷ xs) some sound = some-text names x xs (recursion_from_All (IsSoundItem (length names)) (x ∷ xs) sound).0.0
+pub some-group : (names : List (List ℕ)) (items : List RunItem) → 0 < length items → All (IsItemOf (length names)) items → 1 ≤ length (text_of_items names items)
+some-group names [] some each = absurd (omega (arith, some))
+some-group names (x ∷ xs) some each = some-text names x xs (recursion_from_All (IsItemOf (length names)) (x ∷ xs) each).0.layer
+
+-- the tile of a group whose need is below 2 ^ 32 is shorter than that
+pub short-group : (names : List (List ℕ)) (part bytes : ℕ) (items : List RunItem) → AreShort names → part < 2 ^ 32 → All (IsItemOf (length names)) items → bytes ≡ min (length (items_bytes items)) (2 ^ 64 - 1) → group_need bytes ≤ part
+    → length (text_of_items names items) < 2 ^ 32
+short-group names part bytes items short small each is fits =
+    let sum : length (items_bytes items) < 2 ^ 32 = omega (arith, small, is, fits) in
+    let text = tiles_are_small names items (All-weaker (IsItemOf (length names)) IsItem (λ item h. h.is) items each) short.each sum in
+    let few = short.few in
+    omega (arith, small, is, fits, text, few)
+
+-- what the encoder asks for
+pub in-layers : (names : List (List ℕ)) (items : List RunItem) → All (IsItemOf (length names)) items → All (λ item. item.key.layer < length names) items
+in-layers names items each = All-weaker (IsItemOf (length names)) (λ item. item.key.layer < length names) (λ item h. h.layer) items each
+
+named-writable : (attributes : List Attr) → AllByRecursion IsNamed attributes → AllByRecursion (λ (a : Attr). IsWritable a.value) attributes
+named-writable [] h = tt
+named-writable (a ∷ attributes) h = (h.0.1, named-writable attributes h.1)
+
+pub writable-group : (names : List (List ℕ)) (items : List RunItem) → All (IsItemOf (length names)) items → All IsWritableItem items
+writable-group names items each =
+    All-weaker (IsItemOf (length names)) IsWritableItem (λ item h. All-from_recursion (λ (a : Attr). IsWritable a.value) item.row.attributes (named-writable item.row.attributes h.is.attributes)) items each

@@ -1,5 +1,5 @@
 -- What a survey of an extract answers, and what it leaves of its reader.
-use Rattle.std.specs.Prelude.{◌≡◌, ℕ, Bool, true, false, Result, Ok, Err, List, All, length}
+use Rattle.std.specs.Prelude.{◌≡◌, ℕ, Bool, true, false, Result, Ok, Err, List, All, length, ⊤}
 use Rattle.tb_types.specs.declared.damage.Damage.{Damage}
 use Rattle.pbf_blobs.specs.Answers.{IsShort}
 use Rattle.pbf_blobs.specs.declared.stop.ScanStop.{ScanStop}
@@ -13,6 +13,10 @@ use Rattle.tile_model.specs.Map.{blocks_in}
 use Rattle.build_one.specs.declared.found.Found.{Found}
 use Rattle.build_one.specs.declared.stop.LoadStop.{LoadStop}
 use Rattle.build_one.specs.declared.stop.LoadStop.TheVariants as loads
+use Rattle.tb_outside.specs.declared.spill.SpillErr.{SpillErr}
+use Rattle.tb_outside.specs.declared.spill.SpillErr.TheVariants as spill_errors
+use Rattle.build_one.specs.declared.stop.PassStop.{PassStop}
+use Rattle.build_one.specs.declared.stop.PassStop.TheVariants as passes
 use Rattle.build_one.specs.Found.{HasFound}
 
 -- no two features have one name, and no two nodes or ways one place
@@ -48,3 +52,32 @@ abbrev pub load_failed : {A : Type 0} → Result A LoadStop → Bool
 load_failed (Ok x) = false
 load_failed (Err loads.Failed) = true
 load_failed (Err loads.Memory) = false
+
+-- the reader failed in a pass
+abbrev pub source_failed : {A : Type 0} → Result A PassStop → Bool
+source_failed (Ok x) = false
+source_failed (Err (passes.Damage damage)) = false
+source_failed (Err passes.Source) = true
+source_failed (Err passes.Spill) = false
+source_failed (Err passes.Memory) = false
+
+-- the answer of a pass as its spill's
+abbrev pub as_spilled : {A : Type 0} → Result A PassStop → Result ⊤ SpillErr
+as_spilled (Ok x) = Ok tt
+as_spilled (Err (passes.Damage damage)) = Err spill_errors.Memory
+as_spilled (Err passes.Source) = Err spill_errors.Memory
+as_spilled (Err passes.Spill) = Err spill_errors.Failed
+as_spilled (Err passes.Memory) = Err spill_errors.Memory
+
+-- no block that is loaded touches the spill
+abbrev pub NoSpill : {A : Type 0} → Result A PassStop → Type 0
+NoSpill (Ok x) = Unit {0}
+NoSpill (Err (passes.Damage damage)) = Unit {0}
+NoSpill (Err passes.Source) = Unit {0}
+NoSpill (Err passes.Spill) = ⊥
+NoSpill (Err passes.Memory) = Unit {0}
+
+-- an error of the spill as a stop
+abbrev pub pass_stop_of : SpillErr → PassStop
+pass_stop_of spill_errors.Failed = passes.Spill
+pass_stop_of spill_errors.Memory = passes.Memory

@@ -1,30 +1,34 @@
--- What writing the tiles of items answers.
-use Rattle.std.specs.Prelude.{◌≡◌, ℕ, ◌≤◌, ◌+◌, ◌++◌, ◌^◌, ◌<◌, Bool, true, false, not, ◌==◌, Option, Some, Result, Ok, Err, IfOk, OnOk, List, [], ◌∷◌, length, ⊤}
-use Rattle.std.specs.List.{AllByRecursion}
-use Rattle.std.specs.List.Sorted.{IsSortedBy, IsPermutation}
+-- What writing the tiles of runs answers.
+use Rattle.std.specs.Prelude.{◌≡◌, ℕ, ◌≤◌, ◌+◌, ◌++◌, Option, None, Some, Result, Ok, Err, IfOk, OnOk, List, [], ◌∷◌, length, map, All, ⊤}
 use Rattle.tb_types.specs.Counts.{Rose}
+use Rattle.tb_types.specs.declared.trouble.Whom.TheVariants as whom
 use Rattle.tb_outside.specs.Spill.{SpillSeen, Runs}
+use Rattle.tb_outside.specs.declared.spill.RunAt.{RunAt}
 use Rattle.profile_rules.specs.declared.parts.Parts.{Parts}
-use Rattle.sorted_lists.specs.Grouping.{grouped_by}
 use Rattle.mvt_codec.specs.declared.item.RunItem.{RunItem}
 use Rattle.pmtiles_dirs.specs.declared.meta.Meta.{Meta}
 use Rattle.pmtiles_dirs.specs.Contents.{Tile}
 use Rattle.pmtiles_file.specs.Spool.{KeepsEnded}
 use Rattle.pmtiles_file.specs.Writing.{WriterSeen, Wrote, RunsStand, next_id}
-use Rattle.tile_model.specs.Keys.{item_less, tile_of}
-use Rattle.build_one.specs.declared.stop.TileStop.{TileStop}
-use Rattle.build_one.specs.declared.stop.TileStop.TheVariants as stops
-use Rattle.tile_model.specs.Map.{tile_from, tiles_from, layer_names, has_giant}
+use Rattle.run_merge.specs.declared.merge_err.MergeErr.{MergeErr}
+use Rattle.run_merge.specs.declared.merge_err.MergeErr.TheVariants as errors
+use Rattle.run_merge.specs.declared.named_run.Store.{Store}
+use Rattle.run_merge.specs.Answers.{Merging, named_runs}
+use Rattle.run_merge.specs.Cursors.{cursors_of, left_groups}
+use Rattle.run_merge.specs.Items.{groups_in}
+use Rattle.run_merge.specs.Objects.{Objects, AllTell, NoneRose, OnlyRose, spill_of, whom_of}
+use Rattle.run_merge.specs.Steps.{items_of}
+use Rattle.tile_model.specs.Map.{tiles_from, layer_names}
+use Rattle.tile_model.specs.Needs.{first_over}
 
--- Some items in the order of their keys.
-pub record Ordered (items : List RunItem) : Type 0 where
-  pub sorted : List RunItem
-  pub same : IsPermutation items sorted
-  pub rises : IsSortedBy item_less sorted
+-- the names of at most 64 layers, each of at most 1,024 bytes
+pub record AreShort (names : List (List ℕ)) : Type 0 where
+  pub few : length names ≤ 64
+  pub each : All (λ name. length name ≤ 1024) names
 
--- the tiles of items in order, by the names of all layers
-abbrev pub tiles_in : List (List ℕ) → List RunItem → List Tile
-tiles_in names sorted = tiles_from names (grouped_by tile_of sorted)
+-- the items of all listed runs, tile after tile
+abbrev pub all_groups : {R : Type 0} → Objects R → List (List RunAt) → List (ℕ × List RunItem)
+all_groups o runs = groups_in (map (items_of o) (named_runs runs))
 
 -- where a spool told its runs, it tells them still, and the writer wrote these tiles there
 pub record HasWrote (w : WriterSeen) (after : Option Runs) (tiles : List Tile) : Type 0 where
@@ -36,69 +40,59 @@ abbrev pub Writes : WriterSeen → Option Runs → Option Runs → List Tile →
 Writes w before after tiles = (runs : Runs) → before ≡ Some runs → HasWrote w after tiles
 
 -- the spool's count rose where it failed, and else stays
-abbrev pub TileCounts : {A : Type 0} → Result A TileStop → ℕ → ℕ → Type 0
+abbrev pub TileCounts : {A : Type 0} → Result A MergeErr → ℕ → ℕ → Type 0
 TileCounts (Ok x) old new = new ≡ old
-TileCounts (Err stops.TooLarge) old new = new ≡ old
-TileCounts (Err stops.Failed) old new = Rose old new
-TileCounts (Err stops.Memory) old new = new ≡ old
+TileCounts (Err (errors.Spill whom.Spool)) old new = Rose old new
+TileCounts (Err (errors.Spill whom.Profile)) old new = ⊥
+TileCounts (Err (errors.Spill (whom.Lane k))) old new = ⊥
+TileCounts (Err (errors.Spill whom.Archive)) old new = ⊥
+TileCounts (Err (errors.Spill whom.Console)) old new = ⊥
+TileCounts (Err (errors.Outside w run at)) old new = ⊥
+TileCounts (Err (errors.TooLarge need)) old new = ⊥
+TileCounts (Err errors.Memory) old new = new ≡ old
 
--- what is left of the spool by each call that writes tiles
-pub record SpoolAnswers {A : Type 0} (before after : SpillSeen) (result : Result A TileStop) : Type 0 where
+-- one tile more was written
+pub record TileAnswers (old new : WriterSeen) (tile : Tile) (before after : SpillSeen) (result : Result ⊤ MergeErr) : Type 0 where
+  pub next : OnOk result (next_id new ≡ tile.id + 1)
+  pub meta : new.meta ≡ old.meta
+  pub added : OnOk result ((tiles : List Tile) → Writes old before.runs before.runs tiles → Writes new before.runs after.runs (tiles ++ tile ∷ []))
+  pub stands : OnOk result (RunsStand new after.runs)
+  pub untold : OnOk result (before.runs ≡ None → after.runs ≡ None)
   pub kept : KeepsEnded before.runs after.runs
   pub counts : TileCounts result before.faults after.faults
   pub never_falls : before.faults ≤ after.faults
 
--- one tile more was written, or it is too large
-pub record TileAnswers (old new : WriterSeen) (tile : Tile) (before after : SpillSeen) (result : Result ⊤ TileStop) : Type 0 where
-  pub next : OnOk result (next_id new ≡ tile.id + 1)
+-- Why the tiles of these groups were written or weren't: all are within the part; or a spill failed; or one that doesn't tell gave
+-- back something else; or the first that is above the part has this need; or memory wants.
+abbrev pub Ends : {R A : Type 0} → ℕ → List (ℕ × List RunItem) → Objects R → Objects R → Result A MergeErr → Type 0
+Ends part groups old new (Ok x) = NoneRose old new × (AllTell old → first_over part groups ≡ None)
+Ends part groups old new (Err (errors.Spill w)) = (store : Store) × (w ≡ whom_of store) × OnlyRose old new store
+Ends part groups old new (Err (errors.Outside w run at)) = (store : Store) × (w ≡ whom_of store) × ((spill_of old store).runs ≡ None) × NoneRose old new
+Ends part groups old new (Err (errors.TooLarge need)) = NoneRose old new × (AllTell old → first_over part groups ≡ Some need)
+Ends part groups old new (Err errors.Memory) = NoneRose old new
+
+-- the readers stay, what the spills tell stays, and the spool keeps its ended runs
+pub record Stays {R : Type 0} (old new : Objects R) : Type 0 where
+  pub readers : new.readers ≡ old.readers
+  pub spills : map (λ (s : SpillSeen). s.runs) new.spills ≡ map (λ (s : SpillSeen). s.runs) old.spills
+  pub spool : KeepsEnded old.spool.runs new.spool.runs
+
+-- the tiles of the groups that were left of a merge were written, behind those before
+pub record TilesAnswers {R : Type 0} (names : List (List ℕ)) (part : ℕ) (merge : Merging) (old new : WriterSeen) (before after : Objects R) (result : Result ⊤ MergeErr) : Type 0 where
   pub meta : new.meta ≡ old.meta
-  pub short : OnOk result (length tile.bytes < 2 ^ 32)
-  pub added : OnOk result ((tiles : List Tile) → Writes old before.runs before.runs tiles → Writes new before.runs after.runs (tiles ++ tile ∷ []))
-  pub stands : OnOk result (RunsStand new after.runs)
-  pub giant : result ≡ Err stops.TooLarge → 2 ^ 32 ≤ length tile.bytes
-  pub spool : SpoolAnswers before after result
+  pub stays : Stays before after
+  pub ends : Ends part (left_groups before (cursors_of merge.readers)) before after result
+  pub stands : OnOk result (RunsStand new after.spool.runs)
+  pub wrote : OnOk result (AllTell before → (tiles : List Tile) → Writes old before.spool.runs before.spool.runs tiles
+      → Writes new before.spool.runs after.spool.runs (tiles ++ tiles_from names (left_groups before (cursors_of merge.readers))))
 
--- the tile of the first item, and of items that are all of its tile
-abbrev pub first_tile : List RunItem → ℕ
-first_tile [] = 0
-first_tile (x ∷ xs) = tile_of x
-
-abbrev pub AreOfOneTile : List RunItem → Type 0
-AreOfOneTile [] = Unit {0}
-AreOfOneTile (x ∷ xs) = AllByRecursion (λ y. tile_of y ≡ tile_of x) xs
-
--- an item begins another tile than the items before it have
-abbrev pub begins_tile : List RunItem → RunItem → Bool
-begins_tile [] y = false
-begins_tile (x ∷ xs) y = not (tile_of x == tile_of y)
-
--- a tile's items were written and taken away, if that is said
-abbrev pub ClosesIf : Bool → List (List ℕ) → List RunItem → List RunItem → WriterSeen → WriterSeen → SpillSeen → SpillSeen → Result ⊤ TileStop → Type 0
-ClosesIf false names items left old new before after result = (result ≡ Ok tt) × (left ≡ items) × (new ≡ old) × (after ≡ before)
-ClosesIf true names items left old new before after result = OnOk result (left ≡ []) × TileAnswers old new (tile_from names (first_tile items, items)) before after result
-
--- the tiles of items in order were written, behind those before, or one of them is too large
-pub record TilesAnswers (names : List (List ℕ)) (sorted : List RunItem) (old new : WriterSeen) (before after : SpillSeen) (result : Result ⊤ TileStop) : Type 0 where
-  pub small : OnOk result (has_giant (tiles_in names sorted) ≡ false)
-  pub meta : new.meta ≡ old.meta
-  pub stands : OnOk result (RunsStand new after.runs)
-  pub wrote : OnOk result ((tiles : List Tile) → Writes old before.runs before.runs tiles → Writes new before.runs after.runs (tiles ++ tiles_in names sorted))
-  pub giant : result ≡ Err stops.TooLarge → has_giant (tiles_in names sorted) ≡ true
-  pub spool : SpoolAnswers before after result
-
--- all tiles of items were written, or one of them is too large
-pub record HasTiles (parts : Parts) (meta : Meta) (items : List RunItem) (before after : SpillSeen) (w : WriterSeen) : Type 0 where
-  pub order : Ordered items
-  pub small : has_giant (tiles_in (layer_names parts) order.sorted) ≡ false
+-- the tiles of groups were written
+pub record HasTiles {R : Type 0} (parts : Parts) (meta : Meta) (groups : List (ℕ × List RunItem)) (before after : Objects R) (w : WriterSeen) : Type 0 where
   pub meta_is : w.meta ≡ meta
-  pub stands : RunsStand w after.runs
-  pub wrote : Writes w before.runs after.runs (tiles_in (layer_names parts) order.sorted)
+  pub stands : RunsStand w after.spool.runs
+  pub wrote : AllTell before → Writes w before.spool.runs after.spool.runs (tiles_from (layer_names parts) groups)
 
-pub record HasGiant (parts : Parts) (items : List RunItem) : Type 0 where
-  pub order : Ordered items
-  pub giant : has_giant (tiles_in (layer_names parts) order.sorted) ≡ true
-
-pub record MapAnswers (parts : Parts) (meta : Meta) (items : List RunItem) (before after : SpillSeen) (result : Result WriterSeen TileStop) : Type 0 where
-  pub ok : IfOk result (HasTiles parts meta items before after)
-  pub giant : result ≡ Err stops.TooLarge → HasGiant parts items
-  pub spool : SpoolAnswers before after result
+pub record MapAnswers {R : Type 0} (parts : Parts) (part : ℕ) (meta : Meta) (groups : List (ℕ × List RunItem)) (before after : Objects R) (result : Result WriterSeen MergeErr) : Type 0 where
+  pub stays : Stays before after
+  pub ends : Ends part groups before after result
+  pub ok : IfOk result (HasTiles parts meta groups before after)

@@ -11,6 +11,7 @@ mod found;
 mod load;
 mod map;
 mod members;
+mod needs;
 mod nodes;
 mod numbers;
 mod profile;

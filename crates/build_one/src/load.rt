@@ -3,41 +3,42 @@ ghost use Rattle.tb_types.specs.Counts.{Counted};
 ghost use Rattle.tile_model.specs.Contents.{IsBody};
 ghost use Rattle.build_one.specs.Found.{IsOfElements};
 ghost use Rattle.build_one.specs.Passes.{Loads};
-ghost use Rattle.build_one.specs.Survey.{load_failed, survey_failed};
+ghost use Rattle.build_one.specs.Survey.{load_failed, source_failed, NoSpill};
 
 use crate::body::block_in;
-use crate::stop::LoadStop;
+use crate::stop::{LoadStop, PassStop};
 use osm_elements::{Block, BlockErr};
-use pbf_blobs::{BlockAt, BlockKind, ScanStop};
+use pbf_blobs::{BlockAt, BlockKind};
 use std::alloc::Global;
 use tb_outside::Source;
 use tb_types::Damage;
 
 /// Loads a block of elements and reads it. `Damage` where it is damaged, which no block is once an extract is surveyed, if its
-/// reader gives the same bytes again; `Failed` where the reader's count rose.
+/// reader gives the same bytes again; `Source` where the reader's count rose.
 pub fn load_block<R: Source>(
     alloc: Global,
     reader: &mut R,
     block: BlockAt,
-) -> Result<Block, ScanStop>
+) -> Result<Block, PassStop>
     requires within { IfSome (R.seen reader.old).bytes (λ extract. block.at + block.len ≤ length extract) }
     requires kind { IsOfElements block }
     ensures told { IfSome (R.seen reader.old).bytes (λ extract. Loads extract block result) }
-    ensures counts { Counted (survey_failed result) (R.seen reader.old).faults (R.seen reader.new).faults }
+    ensures alone { NoSpill result }
+    ensures counts { Counted (source_failed result) (R.seen reader.old).faults (R.seen reader.new).faults }
     ensures bytes { (R.seen reader.new).bytes ≡ (R.seen reader.old).bytes }
 {
     let body = match load_body(alloc, reader, block) {
         Ok(body) => body,
-        Err(LoadStop::Failed) => return Err(ScanStop::Failed),
-        Err(LoadStop::Memory) => return Err(ScanStop::Memory),
+        Err(LoadStop::Failed) => return Err(PassStop::Source),
+        Err(LoadStop::Memory) => return Err(PassStop::Memory),
     };
     match block_in(alloc, &body) {
         Ok(elements) => Ok(elements),
-        Err(BlockErr::Bad(why)) => Err(ScanStop::Damage(Damage {
+        Err(BlockErr::Bad(why)) => Err(PassStop::Damage(Damage {
             block: block.no,
             why,
         })),
-        Err(BlockErr::Memory) => Err(ScanStop::Memory),
+        Err(BlockErr::Memory) => Err(PassStop::Memory),
     }
 }
 

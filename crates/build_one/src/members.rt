@@ -3,12 +3,13 @@ ghost use Rattle.tb_types.specs.Counts.{Counted};
 ghost use Rattle.pbf_blobs.specs.Answers.{IsShort};
 ghost use Rattle.build_one.specs.Found.{IsOfElements};
 ghost use Rattle.build_one.specs.Passes.{AreNeeded, Reads};
-ghost use Rattle.build_one.specs.Survey.{survey_failed};
+ghost use Rattle.build_one.specs.Survey.{source_failed, NoSpill};
 
 use crate::load::load_block;
+use crate::stop::PassStop;
 use member_sets::{NeededNodes, NeededWays, Unit};
 use pass_survey::put_needed;
-use pbf_blobs::{BlockAt, ScanStop};
+use pbf_blobs::BlockAt;
 use profile_rules::Profile;
 use shard_store::ShardMap;
 use std::alloc::Global;
@@ -23,11 +24,12 @@ pub fn members<R: Source>(
     reader: &mut R,
     blocks: &[BlockAt],
     ways: &NeededWays,
-) -> Result<NeededNodes, ScanStop>
+) -> Result<NeededNodes, PassStop>
     requires within { IfSome (R.seen reader.old).bytes (λ extract. All (IsShort (length extract)) blocks.now) }
     requires kinds { All IsOfElements blocks.now }
     ensures read { Reads (λ needed read. AreNeeded profile.now ways.now needed read) blocks.now (R.seen reader.old).bytes result }
-    ensures counts { Counted (survey_failed result) (R.seen reader.old).faults (R.seen reader.new).faults }
+    ensures alone { NoSpill result }
+    ensures counts { Counted (source_failed result) (R.seen reader.old).faults (R.seen reader.new).faults }
     ensures bytes { (R.seen reader.new).bytes ≡ (R.seen reader.old).bytes }
 {
     let mut ids: Vec<(OsmId, Unit)> = Vec::new(alloc);
@@ -38,7 +40,7 @@ pub fn members<R: Source>(
         };
         match put_needed(&mut ids, alloc, profile, ways, elements.ways.as_slice()) {
             Ok(()) => {}
-            Err(Memory) => return Err(ScanStop::Memory),
+            Err(Memory) => return Err(PassStop::Memory),
         }
     }
     Ok(NeededNodes::from_map(ShardMap::joined(ids)))

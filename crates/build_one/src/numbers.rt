@@ -1,4 +1,16 @@
-//! Numbers of the formats (PMTiles 3).
+//! Numbers of the passes, and of memory.
 
-/// A tile of a directory's entry has fewer bytes than this, 4 GiB.
-pub const TILE_LIMIT: u64 = 1 << 32;
+/// Passes behind the survey.
+pub const MEMBERS: u8 = 1;
+
+pub const NODES: u8 = 2;
+
+pub const WAYS: u8 = 3;
+
+/// Bytes that a block needs for each byte of its body, and besides.
+pub const BLOCK_FACTOR: u64 = 16;
+
+pub const BLOCK_REST: u64 = 65_536;
+
+/// The most bytes that a value of any type takes.
+pub const MOST_BYTES: usize = isize::MAX as usize;

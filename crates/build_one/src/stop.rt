@@ -1,15 +1,18 @@
 ghost use Rattle.std.specs.Prelude.{◌≡◌};
-ghost use Rattle.build_one.specs.Stages.{stop_of_archive, stop_of_profile, stop_of_survey, stop_of_tiles};
+ghost use Rattle.build_one.specs.Survey.{pass_stop_of};
+ghost use Rattle.build_one.specs.Stages.{stop_of_archive, stop_of_pass, stop_of_profile, stop_of_relations, stop_of_survey, stop_of_tiles};
 
 use pbf_blobs::ScanStop;
 use pmtiles_file::FinishErr;
 use profile_rules::{ProfileWhy, Spot};
+use run_merge::MergeErr;
 use std::alloc::{AllocError, AllocFailed};
-use tb_types::{Memory as NoMemory, Whom};
+use tb_outside::SpillErr;
+use tb_types::{Damage, Memory as NoMemory, Stage, Whom};
 use tile_model::Stop;
 
-/// The reader that a build on one lane has.
-const READER: Whom = Whom::Lane(0);
+/// The lane that a build on one lane has.
+const LANE: Whom = Whom::Lane(0);
 
 /// Why a profile isn't read.
 #[derive(Clone, Copy, Debug, PartialEq, Eq)]
@@ -31,13 +34,26 @@ pub enum LoadStop {
     Memory,
 }
 
-/// Why the tiles of a map aren't written.
+/// Why a pass behind the survey ends.
 #[derive(Clone, Copy, Debug, PartialEq, Eq)]
-pub enum TileStop {
-    /// A tile has 4 GiB or more.
-    TooLarge,
-    /// The spool failed.
-    Failed,
+pub enum PassStop {
+    /// A block is damaged, which none was in the survey.
+    Damage(Damage),
+    /// The reader failed.
+    Source,
+    /// The spill failed.
+    Spill,
+    /// Want of memory.
+    Memory,
+}
+
+/// Why the pass over relations ends.
+#[derive(Clone, Copy, Debug, PartialEq, Eq)]
+pub enum RelationStop {
+    /// A relation needs more memory than there is for it, in bytes.
+    TooLarge { need: u64 },
+    /// The spill failed.
+    Spill,
     /// Want of memory.
     Memory,
 }
@@ -59,19 +75,62 @@ pub fn stop_of_survey(e: ScanStop) -> Stop
 {
     match e {
         ScanStop::Damage(damage) => Stop::Damage(damage),
-        ScanStop::Failed => Stop::Source(READER),
+        ScanStop::Failed => Stop::Source(LANE),
         ScanStop::Memory => Stop::Memory,
     }
 }
 
+/// What a spill that failed is for a pass.
+pub fn stop_of_spill(e: SpillErr) -> PassStop
+    ensures { result ≡ pass_stop_of e }
+{
+    match e {
+        SpillErr::Failed => PassStop::Spill,
+        SpillErr::Memory => PassStop::Memory,
+    }
+}
+
+/// What the end of the pass of this number is for the build.
+pub fn stop_of_pass(pass: u8, e: PassStop) -> Stop
+    ensures { result ≡ stop_of_pass pass e }
+{
+    match e {
+        PassStop::Damage(damage) => Stop::Changed {
+            pass,
+            block: damage.block,
+        },
+        PassStop::Source => Stop::Source(LANE),
+        PassStop::Spill => Stop::Spill(LANE),
+        PassStop::Memory => Stop::Memory,
+    }
+}
+
+/// What the end of the pass over relations is for the build.
+pub fn stop_of_relations(e: RelationStop) -> Stop
+    ensures { result ≡ stop_of_relations e }
+{
+    match e {
+        RelationStop::TooLarge { need } => Stop::Budget {
+            stage: Stage::Relation,
+            need,
+        },
+        RelationStop::Spill => Stop::Spill(LANE),
+        RelationStop::Memory => Stop::Memory,
+    }
+}
+
 /// What refused tiles are for the build.
-pub fn stop_of_tiles(e: TileStop) -> Stop
+pub fn stop_of_tiles(e: MergeErr) -> Stop
     ensures { result ≡ stop_of_tiles e }
 {
     match e {
-        TileStop::TooLarge => Stop::NotYet,
-        TileStop::Failed => Stop::Spill(Whom::Spool),
-        TileStop::Memory => Stop::Memory,
+        MergeErr::Spill(whom) => Stop::Spill(whom),
+        MergeErr::Outside { whom, run, at } => Stop::Outside { whom, run, at },
+        MergeErr::TooLarge { need } => Stop::Budget {
+            stage: Stage::Tile,
+            need,
+        },
+        MergeErr::Memory => Stop::Memory,
     }
 }
 
@@ -126,12 +185,45 @@ impl From<AllocError> for LoadStop {
     }
 }
 
-impl From<NoMemory> for TileStop {
-    ghost use Rattle.build_one.specs.declared.stop.TileStop.TheVariants as stops;
+impl From<NoMemory> for PassStop {
+    ghost use Rattle.build_one.specs.declared.stop.PassStop.TheVariants as stops;
 
     ghost from_gives = { λ _ e. e ≡ stops.Memory };
 
-    fn from(_e: NoMemory) -> TileStop {
-        TileStop::Memory
+    fn from(_e: NoMemory) -> PassStop {
+        PassStop::Memory
+    }
+}
+
+impl From<NoMemory> for RelationStop {
+    ghost use Rattle.build_one.specs.declared.stop.RelationStop.TheVariants as stops;
+
+    ghost from_gives = { λ _ e. e ≡ stops.Memory };
+
+    fn from(_e: NoMemory) -> RelationStop {
+        RelationStop::Memory
+    }
+}
+
+impl From<AllocError> for RelationStop {
+    ghost use Rattle.build_one.specs.declared.stop.RelationStop.TheVariants as stops;
+
+    ghost from_gives = { λ _ e. e ≡ stops.Memory };
+
+    fn from(_e: AllocError) -> RelationStop {
+        RelationStop::Memory
+    }
+}
+
+impl From<SpillErr> for RelationStop {
+    ghost use Rattle.build_one.specs.Stages.{relation_stop_of};
+
+    ghost from_gives = { λ e s. s ≡ relation_stop_of e };
+
+    fn from(e: SpillErr) -> RelationStop {
+        match e {
+            SpillErr::Failed => RelationStop::Spill,
+            SpillErr::Memory => RelationStop::Memory,
+        }
     }
 }

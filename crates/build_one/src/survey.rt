@@ -1,39 +1,21 @@
 ghost use Rattle.std.specs.Prelude.{◌≡◌, ◌+◌, ◌≤◌, All, IfOk, IfSome, OnOk, length};
 ghost use Rattle.tb_types.specs.Counts.{Counted};
 ghost use Rattle.pbf_blobs.specs.Answers.{IsNumbered, IsShort};
-ghost use Rattle.tile_model.specs.Contents.{content_at, contents_at, contents_of};
+ghost use Rattle.tile_model.specs.Contents.{content_at, contents_at};
 ghost use Rattle.build_one.specs.Found.{Takes, IsReady, Steps};
 ghost use Rattle.build_one.specs.Survey.{Surveys, survey_failed, load_failed};
 
 use crate::found::Found;
 use crate::load::load_body;
 use crate::stop::LoadStop;
-use pbf_blobs::{BlockAt, ScanStop, scan};
+use pbf_blobs::{BlockAt, ScanStop};
 use profile_rules::Profile;
 use std::alloc::Global;
 use tb_outside::Source;
 
-/// What an extract holds, as far as the later passes need it: its frames are scanned, and then each block is loaded, once. `Damage` where the extract is damaged, with the first fault of its frames, or else the first reason of the least
-/// damaged block; `Failed` where the reader's count rose, also if there is damage.
-#[tactic(auto, unfolding(tile_model::specs::Contents::contents_of))]
+/// What the blocks of an extract hold, as far as the later passes need it: each block is loaded, once. `Damage` is the first reason
+/// of the least damaged block; `Failed` where the reader's count rose, also if there is damage, since it goes on after that.
 pub fn survey<R: Source>(
-    alloc: Global,
-    profile: &Profile,
-    reader: &mut R,
-) -> Result<Found, ScanStop>
-    ensures told { IfSome (R.seen reader.old).bytes (λ extract. Surveys profile.now extract result (contents_of extract)) }
-    ensures counts { Counted (survey_failed result) (R.seen reader.old).faults (R.seen reader.new).faults }
-    ensures bytes { (R.seen reader.new).bytes ≡ (R.seen reader.old).bytes }
-    ensures ready { IfOk result (IsReady profile.now) }
-{
-    match scan(alloc, reader) {
-        Ok(index) => take_blocks(alloc, profile, reader, index.blocks.as_slice()),
-        Err(stop) => Err(stop),
-    }
-}
-
-// What these blocks hold. It goes on after a damaged block, so that a fault of the reader is answered before damage.
-fn take_blocks<R: Source>(
     alloc: Global,
     profile: &Profile,
     reader: &mut R,

@@ -1,147 +1,115 @@
-ghost use Rattle.std.specs.Prelude.{◌≡◌, ◌≤◌, ◌<◌, ◌^◌, [], All, IfSome, length, nat_le};
-ghost use Rattle.std.specs.List.Sorted.{IsSortedBy};
+ghost use Rattle.std.specs.Prelude.{◌≤◌, ◌<◌, ◌^◌, ◌≡◌, IfSome, length};
+ghost use Rattle.profile_rules.specs.Fields.{layers_of};
 ghost use Rattle.profile_rules.specs.Sound.{IsSound};
+ghost use Rattle.tb_types.specs.Needs.{group_need};
 ghost use Rattle.pmtiles_dirs.specs.Bounds.{CanBeWritten};
 ghost use Rattle.pmtiles_file.specs.Writing.{next_id, RunsStand};
-ghost use Rattle.tile_model.specs.Keys.{item_less};
-ghost use Rattle.tile_model.specs.Items.{AreSound, IsSoundItem};
+ghost use Rattle.run_merge.specs.Answers.{IsGroupOf, named_runs};
+ghost use Rattle.run_merge.specs.Cursors.{AreThere, AreTold};
+ghost use Rattle.run_merge.specs.Objects.{objects_of};
+ghost use Rattle.run_merge.specs.Steps.{AreReadable};
 ghost use Rattle.tile_model.specs.Map.{tile_from};
-ghost use Rattle.build_one.specs.Writing.{begins_tile, first_tile, AreOfOneTile, ClosesIf, MapAnswers, TileAnswers, TilesAnswers};
+ghost use Rattle.build_one.specs.Writing.{all_groups, AreShort, MapAnswers, TileAnswers, TilesAnswers};
 
 use crate::map::layer_names;
-use crate::numbers::TILE_LIMIT;
-use crate::stop::TileStop;
-use mvt_codec::{RunItem, encode_items};
+use mvt_codec::encode_items;
 use pmtiles_dirs::Meta;
 use pmtiles_file::Writer;
 use profile_rules::Profile;
+use run_merge::{Group, Merge, MergeErr, RunAt};
 use std::alloc::Global;
-use std::mem::replace;
-use tb_outside::{Spill, SpillErr};
-use tb_types::{Memory, Seq, Text, TileId};
-use tile_model::sort_items;
+use tb_outside::{Lane, Spill, SpillErr};
+use tb_types::{Seq, Text, Whom};
 
-/// Writes the tiles of items: puts these in the order of their keys, and hands the text of each tile to a writer, which
-/// keeps it in the spool. `TooLarge` comes only where a tile has 4 GiB or more, `Failed` only where the spool's count rose.
-pub fn write_tiles<S: Spill>(
+/// Writes the tiles of the items in the listed runs, one list for each lane: merges these, and hands the text of each tile to a
+/// writer, which keeps it in the spool. `part` is the memory for the items of a tile, in bytes.
+///
+/// # Errors
+///
+/// Those of the merge: `TooLarge` for the first tile that needs more than the part, `Spill` for the spill or the spool that
+/// failed, `Outside` for one that gave back something else, `Memory`.
+pub fn write_tiles<R, S: Spill>(
     alloc: Global,
     profile: &Profile,
     meta: Meta,
-    mut items: Vec<RunItem>,
+    runs: &[Seq<RunAt>],
+    lanes: &mut [Lane<R, S>],
     spool: &mut S,
-) -> Result<Writer, TileStop>
-    requires sound { AreSound profile.now items.items }
+    part: u64,
+) -> Result<Writer, MergeErr>
+    requires sound { IsSound profile.now }
     requires bounds { IfSome meta.bounds CanBeWritten }
-    ensures { MapAnswers profile.now meta items.items (S.seen spool.old) (S.seen spool.new) result }
+    requires part { part < 2 ^ 32 }
+    requires lists { length runs.now ≡ length lanes.old }
+    requires told { AreReadable (objects_of S.seen lanes.old spool.old) (length (layers_of profile.now)) (named_runs runs.now) }
+    ensures { MapAnswers profile.now part meta (all_groups (objects_of S.seen lanes.old spool.old) runs.now) (objects_of S.seen lanes.old spool.old) (objects_of S.seen lanes.new spool.new) result }
 {
     let names = layer_names(alloc, profile)?;
+    let names = names.as_slice();
     let mut writer = Writer::new(alloc, meta)?;
-    sort_items(&mut items);
-    match put_tiles(alloc, &names, items, &mut writer, spool) {
+    let mut merge = match Merge::start(alloc, lanes, runs, names.len() as u8, spool) {
+        Ok(merge) => merge,
+        Err(e) => return Err(e),
+    };
+    match put_tiles(alloc, names, &mut merge, lanes, spool, part, &mut writer) {
         Ok(()) => Ok(writer),
-        Err(stop) => Err(stop),
+        Err(e) => Err(e),
     }
 }
 
-// Writes the tiles of items in order.
-fn put_tiles<S: Spill>(
+// Writes the tiles of all items that are left of a merge, by ascending id.
+fn put_tiles<R, S: Spill>(
     alloc: Global,
     names: &[Text],
-    items: Vec<RunItem>,
-    writer: &mut Writer,
+    merge: &mut Merge,
+    lanes: &mut [Lane<R, S>],
     spool: &mut S,
-) -> Result<(), TileStop>
-    requires sound { All (IsSoundItem (length names.now)) items.items }
-    requires rises { IsSortedBy item_less items.items }
+    part: u64,
+    writer: &mut Writer,
+) -> Result<(), MergeErr>
+    requires names { AreShort names.now }
+    requires part { part < 2 ^ 32 }
+    requires layers { merge.old.layers ≡ length names.now }
+    requires there { AreThere (objects_of S.seen lanes.old spool.old) merge.old.readers }
+    requires told { AreTold (objects_of S.seen lanes.old spool.old) merge.old.layers merge.old.readers }
     requires first { next_id writer.old ≡ 0 }
     requires stand { RunsStand writer.old (S.seen spool.old).runs }
-    ensures { TilesAnswers names.now items.items writer.old writer.new (S.seen spool.old) (S.seen spool.new) result }
+    ensures { TilesAnswers names.now part merge.old writer.old writer.new (objects_of S.seen lanes.old spool.old) (objects_of S.seen lanes.new spool.new) result }
 {
-    let mut group = Seq::new(alloc);
-    for item in items {
-        match close(&mut group, alloc, names, &item, writer, spool) {
-            Ok(()) => {}
-            Err(stop) => return Err(stop),
+    'tiles: loop {
+        match merge.next_group(lanes, spool, part) {
+            Ok(Some(group)) => match put_tile(alloc, names, group, part, spool, writer) {
+                Ok(()) => {}
+                Err(e) => return Err(e),
+            },
+            Ok(None) => return Ok(()),
+            Err(e) => return Err(e),
         }
-        group.push(item)?;
-    }
-    if group.as_slice().is_empty() {
-        return Ok(());
-    }
-    put_tile(alloc, names, group, writer, spool)
-}
-
-// Writes the tile of the items so far, if the next item begins another, and takes them away.
-fn close<S: Spill>(
-    group: &mut Seq<RunItem>,
-    alloc: Global,
-    names: &[Text],
-    item: &RunItem,
-    writer: &mut Writer,
-    spool: &mut S,
-) -> Result<(), TileStop>
-    requires sound { All (IsSoundItem (length names.now)) group.old }
-    requires one { AreOfOneTile group.old }
-    requires next { 0 < length group.old → next_id writer.old ≤ first_tile group.old }
-    requires stand { RunsStand writer.old (S.seen spool.old).runs }
-    ensures { ClosesIf (begins_tile group.old item.now) names.now group.old group.new writer.old writer.new (S.seen spool.old) (S.seen spool.new) result }
-{
-    if !begins_tile(group.as_slice(), item) {
-        return Ok(());
-    }
-    let whole = replace(group, Seq::new(alloc));
-    put_tile(alloc, names, whole, writer, spool)
-}
-
-// Whether an item begins another tile than the items before it have.
-fn begins_tile(group: &[RunItem], item: &RunItem) -> bool
-    ensures { result ≡ begins_tile group.now item.now }
-{
-    match group.first() {
-        None => false,
-        Some(first) => first.key.tile != item.key.tile,
     }
 }
 
-// Writes the tile of some items.
+// Writes the tile of a group.
 fn put_tile<S: Spill>(
     alloc: Global,
     names: &[Text],
-    items: Seq<RunItem>,
-    writer: &mut Writer,
+    group: Group,
+    part: u64,
     spool: &mut S,
-) -> Result<(), TileStop>
-    requires some { 0 < length items }
-    requires sound { All (IsSoundItem (length names.now)) items }
-    requires next { next_id writer.old ≤ first_tile items }
+    writer: &mut Writer,
+) -> Result<(), MergeErr>
+    requires names { AreShort names.now }
+    requires part { part < 2 ^ 32 }
+    requires group { IsGroupOf (length names.now) group }
+    requires fits { group_need group.bytes ≤ part }
+    requires next { next_id writer.old ≤ group.tile.0 }
     requires stand { RunsStand writer.old (S.seen spool.old).runs }
-    ensures { TileAnswers writer.old writer.new (tile_from names.now (first_tile items, items)) (S.seen spool.old) (S.seen spool.new) result }
+    ensures { TileAnswers writer.old writer.new (tile_from names.now (group.tile.0, group.items)) (S.seen spool.old) (S.seen spool.new) result }
 {
-    let id = first_tile(items.as_slice());
-    let tile = encode_items(alloc, names, items)?;
-    if is_giant(&tile) {
-        return Err(TileStop::TooLarge);
-    }
-    match writer.add(spool, TileId(id), &tile) {
+    let id = group.tile;
+    let tile = encode_items(alloc, names, group.items)?;
+    match writer.add(spool, id, &tile) {
         Ok(()) => Ok(()),
-        Err(SpillErr::Failed) => Err(TileStop::Failed),
-        Err(SpillErr::Memory) => Err(TileStop::Memory),
+        Err(SpillErr::Failed) => Err(MergeErr::Spill(Whom::Spool)),
+        Err(SpillErr::Memory) => Err(MergeErr::Memory),
     }
-}
-
-// The tile of the first item.
-fn first_tile(items: &[RunItem]) -> u64
-    ensures { result ≡ first_tile items.now }
-{
-    match items.first() {
-        None => 0,
-        Some(first) => first.key.tile,
-    }
-}
-
-// Whether a tile has too many bytes for an entry of a directory.
-fn is_giant(tile: &[u8]) -> bool
-    ensures { result ≡ nat_le (2 ^ 32) (length tile.now) }
-{
-    tile.len() as u64 >= TILE_LIMIT
 }

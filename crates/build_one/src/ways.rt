@@ -2,61 +2,57 @@ ghost use Rattle.std.specs.Prelude.{◌≡◌, ◌++◌, All, IfSome, OnOk, leng
 ghost use Rattle.tb_types.specs.Counts.{Counted};
 ghost use Rattle.pbf_blobs.specs.Answers.{IsShort};
 ghost use Rattle.profile_rules.specs.Sound.{IsSound};
-ghost use Rattle.tile_model.specs.Items.{Gains};
+ghost use Rattle.feature_runs.specs.Writing.{Frames};
 ghost use Rattle.tile_model.specs.Tiles.{emitted_items};
 ghost use Rattle.tile_model.specs.Ways.{block_ways};
+ghost use Rattle.pass_shapes.specs.Emitting.{Emits};
 ghost use Rattle.pass_shapes.specs.Stores.{locate_in, shaped_in};
 ghost use Rattle.build_one.specs.Found.{IsOfElements};
 ghost use Rattle.build_one.specs.Passes.{AreDrawn, Reads};
-ghost use Rattle.build_one.specs.Survey.{survey_failed};
+ghost use Rattle.build_one.specs.Survey.{as_spilled, source_failed};
 
 use crate::load::load_block;
+use crate::stop::{PassStop, stop_of_spill};
+use feature_runs::RunBuffer;
 use member_sets::NeededWays;
-use mvt_codec::RunItem;
 use node_store::{Locations, Shaped, Shapes};
 use osm_elements::Block;
 use pass_shapes::{put_shaped, put_ways};
-use pbf_blobs::{BlockAt, ScanStop};
+use pbf_blobs::BlockAt;
 use profile_rules::Profile;
 use shard_store::ShardMap;
 use std::alloc::Global;
-use tb_outside::Source;
+use tb_outside::{Lane, Source, Spill, SpillErr};
 use tb_types::{Memory, OsmId};
 
-/// The shapes of the needed ways, and the items of all ways behind others.
-#[derive(Drop)]
-pub struct Drawn {
-    pub shapes: Shapes,
-    pub items: Vec<RunItem>,
-}
-
-/// Gives the needed ways their shapes and makes the items of all ways, behind others. Each of these blocks is loaded, once.
-pub fn ways<R: Source>(
+/// Gives the needed ways their shapes, and adds the items of all ways to the run buffer. Each of these blocks is loaded, once.
+pub fn ways<R: Source, S: Spill>(
     alloc: Global,
     profile: &Profile,
-    reader: &mut R,
+    lane: &mut Lane<R, S>,
+    buffer: &mut RunBuffer,
     blocks: &[BlockAt],
     needed: &NeededWays,
     locations: &Locations,
-    before: Vec<RunItem>,
-) -> Result<Drawn, ScanStop>
+) -> Result<Shapes, PassStop>
     requires sound { IsSound profile.now }
-    requires within { IfSome (R.seen reader.old).bytes (λ extract. All (IsShort (length extract)) blocks.now) }
+    requires within { IfSome (R.seen lane.old.reader).bytes (λ extract. All (IsShort (length extract)) blocks.now) }
     requires kinds { All IsOfElements blocks.now }
-    ensures read { Reads (λ drawn read. AreDrawn profile.now needed.now locations.now before.items drawn read) blocks.now (R.seen reader.old).bytes result }
-    ensures counts { Counted (survey_failed result) (R.seen reader.old).faults (R.seen reader.new).faults }
-    ensures bytes { (R.seen reader.new).bytes ≡ (R.seen reader.old).bytes }
+    ensures read { Reads (λ shapes read. AreDrawn profile.now needed.now locations.now (S.seen lane.old.spill) (S.seen lane.new.spill) buffer.old buffer.new shapes read) blocks.now (R.seen lane.old.reader).bytes result }
+    ensures counts { Counted (source_failed result) (R.seen lane.old.reader).faults (R.seen lane.new.reader).faults }
+    ensures bytes { (R.seen lane.new.reader).bytes ≡ (R.seen lane.old.reader).bytes }
+    ensures spill { Frames (S.seen lane.old.spill) (S.seen lane.new.spill) (as_spilled result) }
 {
     let mut entries: Vec<(OsmId, Shaped)> = Vec::new(alloc);
-    let mut items = before;
     for block in blocks {
-        let elements = match load_block(alloc, reader, *block) {
+        let elements = match load_block(alloc, &mut lane.reader, *block) {
             Ok(elements) => elements,
             Err(stop) => return Err(stop),
         };
         match draw(
             &mut entries,
-            &mut items,
+            buffer,
+            &mut lane.spill,
             alloc,
             profile,
             needed,
@@ -65,29 +61,31 @@ pub fn ways<R: Source>(
             &elements,
         ) {
             Ok(()) => {}
-            Err(Memory) => return Err(ScanStop::Memory),
+            Err(e) => return Err(stop_of_spill(e)),
         }
     }
-    let shapes = Shapes::from_map(ShardMap::joined(entries));
-    Ok(Drawn { shapes, items })
+    Ok(Shapes::from_map(ShardMap::joined(entries)))
 }
 
-// What is known of the needed ways of a block, and the items of its ways.
-fn draw(
+// What is known of the needed ways of a block is put, and the items of its ways are added.
+fn draw<S: Spill>(
     entries: &mut Vec<(OsmId, Shaped)>,
-    items: &mut Vec<RunItem>,
+    buffer: &mut RunBuffer,
+    spill: &mut S,
     alloc: Global,
     profile: &Profile,
     needed: &NeededWays,
     locations: &Locations,
     no: u32,
     block: &Block,
-) -> Result<(), Memory>
+) -> Result<(), SpillErr>
     requires sound { IsSound profile.now }
     ensures entries { OnOk result (entries.new.items ≡ entries.old.items ++ shaped_in needed.now (locate_in locations.now) no block.now.ways) }
-    ensures items { OnOk result (Gains profile.now (emitted_items (block_ways profile.now (locate_in locations.now) (no, block.now))) items.old.items items.new.items) }
+    ensures items { Emits profile.now (emitted_items (block_ways profile.now (locate_in locations.now) (no, block.now))) (S.seen spill.old) (S.seen spill.new) buffer.old buffer.new result }
 {
     let ways = block.ways.as_slice();
-    put_shaped(entries, alloc, needed, locations, no, ways)?;
-    put_ways(items, alloc, profile, locations, no, ways)
+    match put_shaped(entries, alloc, needed, locations, no, ways) {
+        Ok(()) => put_ways(buffer, spill, alloc, profile, locations, no, ways),
+        Err(Memory) => Err(SpillErr::Memory),
+    }
 }

@@ -23,7 +23,7 @@ pub use head::read_head;
 pub use item_reader::read_item;
 pub use item_writer::put_item;
 pub use laws::{items_stand_apart, runs_behind_change_nothing};
-pub use lengths::item_len;
+pub use lengths::{item_len, row_len};
 pub use mvt_codec::{Group, ItemKey, RunItem};
 pub use run_buffer::RunBuffer;
 pub use tb_outside::{RunAt, Spill, SpillErr};

@@ -1,5 +1,5 @@
--- Pieces near a tile with few points can be written.
-use Rattle.std.proofs.Common.{ℕ, ◌^◌, ◌<◌, List, [], ◌∷◌, length, All, arith}
+-- Pieces near a tile with few points can be written, and what is written has the form of its type.
+use Rattle.std.proofs.Common.{◌≡◌, ℕ, ◌^◌, ◌<◌, true, List, [], ◌∷◌, length, All, arith}
 use Rattle.std.proofs.lemmas.Int.{ints}
 use Rattle.std.proofs.lemmas.List.Elements.{All-nil, All-cons, All-weaker, All-append}
 use Rattle.tb_types.specs.Bags.{total}
@@ -10,8 +10,10 @@ use Rattle.tb_types.specs.declared.shape.Shape.{Shape}
 use Rattle.tb_types.specs.declared.shape.Shape.TheVariants.{Point, Line, Area}
 use Rattle.strip_clip.specs.CleanCuts.{IsCleanCut, polygon_points, points_of}
 use Rattle.strip_clip.specs.CleanCuts as cuts
-use Rattle.mvt_geom.specs.Text.{IsDrawable, IsShort, lines_in, rings_of}
+use Rattle.mvt_geom.specs.Commands.{has_form}
+use Rattle.mvt_geom.specs.Text.{IsDrawable, IsShort, form_of, ints_of, lines_in, rings_of}
 use Rattle.mvt_geom.specs.Text as texts
+use Rattle.mvt_geom.proofs.Again.{geometry_has_its_form}
 use Rattle.mvt_geom.proofs.Steps.{near_shapes_are_drawable}
 
 module _ (P Q : Grid → Type 0) (f : (p : Grid) → P p → Q p) where
@@ -57,3 +59,14 @@ lines-short (Area polygons) h = short-rings (2 ^ 29) polygons h
 
 pub drawable : (shape : Shape) → IsCleanCut shape → points_of shape < 2 ^ 29 → IsDrawable shape
 drawable shape clean few = near_shapes_are_drawable shape (clean-weaker cuts.IsNear texts.IsNear near-enough shape clean) (lines-short shape few)
+
+near-point : (p : Grid) → cuts.IsNear p → texts.IsPoint p
+near-point p h =
+    let x_low = h.x.low in
+    let x_high = h.x.high in
+    let y_low = h.y.low in
+    let y_high = h.y.high in
+    record { x = (grind (arith, ints), grind (arith, ints)); y = (grind (arith, ints), grind (arith, ints)) }
+
+pub has-its-form : (shape : Shape) → IsCleanCut shape → has_form (form_of shape) (ints_of shape) ≡ true
+has-its-form shape clean = geometry_has_its_form shape (clean-weaker cuts.IsNear texts.IsPoint near-point shape clean)

@@ -1,12 +1,14 @@
-pub mod Gaining
+pub mod Emitting
 pub mod Ranging
 pub mod PointItems
 pub mod Walks
 pub mod ZoomItems
 pub mod Drawable
+pub mod SoundItems
 pub mod Latest
 pub mod Locating
 pub mod Shaping
 pub mod WayWalks
 pub mod SpecItems
 pub mod Features
+pub mod MemberPoints

@@ -1,5 +1,5 @@
 -- Stores of the needed nodes and ways have them as the extract does, so the features of ways and of kept relations are those of the extract.
-use Rattle.std.proofs.Common.{◌≡◌, ◌≢◌, ℕ, Bool, true, false, cond, ◌||◌, is_some, Option, None, Some, option_map, option_and_then, List, [], ◌∷◌, ◌++◌, map, filter, filter_map, flat_map, length, nat_le, refl, sym, ap, subst, ◌∙◌, append_assoc}
+use Rattle.std.proofs.Common.{◌≡◌, ◌≢◌, ℕ, Bool, true, cond, ◌||◌, is_some, Option, None, Some, option_map, option_and_then, List, [], ◌∷◌, ◌++◌, filter, filter_map, flat_map, length, nat_le, refl, ap, subst, ◌∙◌, append_assoc}
 use Rattle.std.proofs.lemmas.Bool.Decides.{Decides-int_eq}
 use Rattle.std.specs.Option.{option_cmp}
 use Rattle.std.specs.List.{AllByRecursion, cons_option}
@@ -16,22 +16,19 @@ use Rattle.profile_rules.specs.declared.spec.Spec.{Spec}
 use Rattle.profile_rules.specs.Features.{specs_of}
 use Rattle.tb_types.specs.declared.element.Kind.TheVariants as kinds
 use Rattle.ring_assembly.specs.Chains.{same_node}
-use Rattle.ring_assembly.specs.declared.way.WayShape.{WayShape}
 use Rattle.member_sets.specs.Ids.{entry_of, entries_of}
-use Rattle.member_sets.specs.declared.kept.KeptRelation.{KeptRelation}
 use Rattle.shard_store.specs.Join.{Entry, join, under, join_all, IsJoinOf}
 use Rattle.member_sets.specs.declared.unit.Unit.{Unit}
 use Rattle.node_store.specs.declared.located.Located.{Located}
 use Rattle.node_store.specs.declared.shaped.Shaped.{Shaped}
 use Rattle.node_store.specs.Order.{located_order, located_join, world_order, shaped_order, shaped_join, way_order}
-use Rattle.sorted_lists.proofs.Orders.{Pairs, each_weaker, each_filter}
-use Rattle.tile_model.specs.Extract.{all_nodes, all_ways, all_refs, latest, location_of, shape_of, is_some_list, needed_refs}
+use Rattle.sorted_lists.proofs.Orders.{Pairs, each_weaker}
+use Rattle.tile_model.specs.Extract.{all_nodes, all_ways, all_refs, latest, location_of, is_some_list, needed_refs}
 use Rattle.tile_model.specs.Points.{point_of}
-use Rattle.tile_model.specs.Relations.{way_along, first_each, polygons_of, area_of, relation_shape}
+use Rattle.tile_model.specs.Relations.{way_along}
 use Rattle.tile_model.specs.Rows.{shape_feature}
 use Rattle.tile_model.specs.Ways.{all_located, path_of, is_closed, ring_area, way_shape, way_origin, way_feature, way_features, ways_of}
 use Rattle.tile_model.specs.declared.world.WorldShape.TheVariants as worlds
-use Rattle.pass_shapes.specs.Kept.{kept_origin, kept_features}
 use Rattle.pass_shapes.specs.Stores.{locate_in, is_needed, located_in, shape_in, shaped_in}
 use Rattle.pass_shapes.proofs.Latest.{stored}
 

@@ -1,12 +1,11 @@
 -- Walks over numbers from one on, up to another.
-use Rattle.std.proofs.Common.{◌≡◌, ℕ, ◌+◌, ◌-◌, ◌≤◌, ◌<◌, List, [], ◌∷◌, ◌++◌, map, flat_map, refl, sym, ap, ◌∙◌, arith, append_assoc}
+use Rattle.std.proofs.Common.{◌≡◌, ℕ, ◌+◌, ◌-◌, ◌≤◌, ◌<◌, List, [], ◌∷◌, ◌++◌, map, flat_map, refl, sym, ap, ◌∙◌, arith}
 use Rattle.std.proofs.lemmas.List.{append-nil, map-append}
 use Rattle.std.proofs.lemmas.Grind.{flat_map-append}
 use Rattle.std.specs.List.{range_with_len}
 use Rattle.profile_rules.specs.declared.parts.Parts.{Parts}
 use Rattle.mvt_codec.specs.declared.item.RunItem.{RunItem}
-use Rattle.tile_model.specs.Items.{Gains}
-use Rattle.pass_shapes.proofs.Gaining.{gains-none, gains-both, gains-as, range-last}
+use Rattle.pass_shapes.proofs.Emitting.{State, Sends, sends-none, sends-both, sends-as, range-last}
 
 -- the numbers from one on, below another
 abbrev pub from_to : ℕ → ℕ → List ℕ
@@ -21,46 +20,26 @@ one-more a z h =
     let last : a + (z - a) ≡ z = omega (arith, h) in
     ap (range_with_len a) count ∙ (range-last a (z - a) ∙ ap (λ m. range_with_len a (z - a) ++ m ∷ []) last)
 
--- A walk that adds items number by number.
-pub record Walked (f : ℕ → List RunItem) (a z end : ℕ) (old now : List RunItem) : Type 0 where
-  pub items : now ≡ old ++ flat_map f (from_to a z)
+-- A walk that emits items number by number.
+pub record Sent (parts : Parts) (f : ℕ → List RunItem) (a z end : ℕ) (old now : State) : Type 0 where
+  pub items : Sends parts (flat_map f (from_to a z)) old now
   pub start : a ≤ z
   pub within : z ≤ end
 
-pub walked-none : (f : ℕ → List RunItem) (a end : ℕ) (old : List RunItem) → a ≤ end → Walked f a a end old old
-walked-none f a end old h = record { items = sym (ap (λ ns. old ++ flat_map f ns) (none-yet a) ∙ append-nil old); start = omega arith; within = h }
+pub sent-none : (parts : Parts) (f : ℕ → List RunItem) (a end : ℕ) (old : State) → a ≤ end → Sent parts f a a end old old
+sent-none parts f a end old h = record { items = sends-as parts [] _ old old (sym (ap (flat_map f) (none-yet a))) (sends-none parts old); start = omega arith; within = h }
 
-pub walked-more : (f : ℕ → List RunItem) (a z end : ℕ) (old now new : List RunItem) → z < end → Walked f a z end old now → new ≡ now ++ f z → Walked f a (z + 1) end old new
-walked-more f a z end old now new more w adds = record {
-  items = adds ∙ (ap (λ xs. xs ++ f z) w.items ∙ (append_assoc old (flat_map f (from_to a z)) (f z)
-      ∙ ap (λ xs. old ++ xs) (sym (ap (flat_map f) (one-more a z w.start) ∙ (flat_map-append f (from_to a z) (z ∷ []) ∙ ap (λ xs. flat_map f (from_to a z) ++ xs) (append-nil (f z)))))));
-  start = let s = w.start in omega (arith, s);
-  within = omega (arith, more);
-}
-
-pub walked-all : (f : ℕ → List RunItem) (a z end : ℕ) (old now : List RunItem) → end ≤ z → Walked f a z end old now → now ≡ old ++ flat_map f (from_to a end)
-walked-all f a z end old now all w = let h = w.within in let same : z ≡ end = omega (arith, h, all) in w.items ∙ ap (λ n. old ++ flat_map f (from_to a n)) same
-
--- The same of items that come in any order.
-pub record Gained (parts : Parts) (f : ℕ → List RunItem) (a z end : ℕ) (old now : List RunItem) : Type 0 where
-  pub items : Gains parts (flat_map f (from_to a z)) old now
-  pub start : a ≤ z
-  pub within : z ≤ end
-
-pub gained-none : (parts : Parts) (f : ℕ → List RunItem) (a end : ℕ) (old : List RunItem) → a ≤ end → Gained parts f a a end old old
-gained-none parts f a end old h = record { items = gains-as parts [] _ old old (sym (ap (flat_map f) (none-yet a))) (gains-none parts old); start = omega arith; within = h }
-
-pub gained-more : (parts : Parts) (f : ℕ → List RunItem) (a z end : ℕ) (old now new : List RunItem) → z < end → Gained parts f a z end old now → Gains parts (f z) now new → Gained parts f a (z + 1) end old new
-gained-more parts f a z end old now new more w adds = record {
-  items = gains-as parts _ _ old new
+pub sent-more : (parts : Parts) (f : ℕ → List RunItem) (a z end : ℕ) (old now new : State) → z < end → Sent parts f a z end old now → Sends parts (f z) now new → Sent parts f a (z + 1) end old new
+sent-more parts f a z end old now new more w adds = record {
+  items = sends-as parts _ _ old new
       (sym (ap (flat_map f) (one-more a z w.start) ∙ (flat_map-append f (from_to a z) (z ∷ []) ∙ ap (λ xs. flat_map f (from_to a z) ++ xs) (append-nil (f z)))))
-      (gains-both parts (flat_map f (from_to a z)) (f z) old now new w.items adds);
+      (sends-both parts (flat_map f (from_to a z)) (f z) old now new w.items adds);
   start = let s = w.start in omega (arith, s);
   within = omega (arith, more);
 }
 
-pub gained-all : (parts : Parts) (f : ℕ → List RunItem) (a z end : ℕ) (old now : List RunItem) → end ≤ z → Gained parts f a z end old now → Gains parts (flat_map f (from_to a end)) old now
-gained-all parts f a z end old now all w = let h = w.within in let same : z ≡ end = omega (arith, h, all) in gains-as parts _ _ old now (ap (λ n. flat_map f (from_to a n)) same) w.items
+pub sent-all : (parts : Parts) (f : ℕ → List RunItem) (a z end : ℕ) (old now : State) → end ≤ z → Sent parts f a z end old now → Sends parts (flat_map f (from_to a end)) old now
+sent-all parts f a z end old now all w = let h = w.within in let same : z ≡ end = omega (arith, h, all) in sends-as parts _ _ old now (ap (λ n. flat_map f (from_to a n)) same) w.items
 
 -- one item for each number, and a map over a walk
 pub singles : {A : Type 0} (g : A → RunItem) (h : ℕ → A) (ns : List ℕ) → flat_map (λ n. g (h n) ∷ []) ns ≡ map g (map h ns)

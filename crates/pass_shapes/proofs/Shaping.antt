@@ -1,5 +1,5 @@
 -- A store of the needed ways has them in the shapes of the extract, so the features of kept relations are those of the extract.
-use Rattle.std.proofs.Common.{◌≡◌, ◌≢◌, ℕ, Bool, true, false, cond, ◌||◌, not, is_some, Option, None, Some, IfSome, option_map, option_and_then, List, [], ◌∷◌, ◌++◌, filter, filter_map, flat_map, refl, sym, ap, subst, ◌∙◌}
+use Rattle.std.proofs.Common.{◌≡◌, ◌≢◌, ℕ, Bool, true, false, cond, ◌||◌, not, is_some, Option, None, Some, IfSome, option_map, option_and_then, List, length, [], ◌∷◌, ◌++◌, filter, filter_map, flat_map, refl, sym, ap, subst, ◌∙◌}
 use Rattle.std.specs.Ordering.{is_lt}
 use Rattle.std.specs.List.{AllByRecursion, cons_option}
 use Rattle.tb_types.specs.Orders.{place_order}
@@ -29,7 +29,9 @@ use Rattle.sorted_lists.proofs.Orders.{Pairs, each_weaker, each_filter, each_app
 use Rattle.tile_model.specs.Extract.{all_nodes, all_ways, all_refs, placed_ways, latest, later, location_of, shape_of, is_some_list, needed_refs}
 use Rattle.tile_model.specs.Relations.{way_along, first_each, polygons_of, area_of, relation_shape}
 use Rattle.tile_model.specs.Rows.{shape_feature, form_feature}
-use Rattle.pass_shapes.specs.Kept.{kept_origin, kept_features}
+use Rattle.std.specs.Prelude.{sum_by}
+use Rattle.tb_types.specs.Needs.{relation_need}
+use Rattle.pass_shapes.specs.Kept.{kept_origin, kept_features, needs_of}
 use Rattle.pass_shapes.specs.Stores.{locate_in, is_needed, located_in, shape_in, shaped_in}
 use Rattle.pass_shapes.proofs.Locating.{needed-located, same-along, shaped, set-has, each-given}
 
@@ -126,17 +128,26 @@ module _ (parts : Parts) (one other : OsmId → Option WayShape) where
   same-kept [] h = refl
   same-kept (k ∷ kept) h = λ i. same-specs k (same-polygons k.members h.0) k.specs i ++ same-kept kept h.1 i
 
--- The features of kept relations by a store of the needed ways, whose nodes a store of the needed nodes has, are those by the shapes of the extract.
-pub kept-shaped : (parts : Parts) (set both : Unit → Unit → Unit) (blocks : List (ℕ × Block)) (kept : List KeptRelation) (ways needed : List (Entry Unit)) (store : List (Entry Located)) (shapes : List (Entry Shaped))
+  pub same-needs : (kept : List KeptRelation) → AllByRecursion (λ (k : KeptRelation). AllByRecursion (λ id. one id ≡ other id) k.members) kept → needs_of one kept ≡ needs_of other kept
+  same-needs [] h = refl
+  same-needs (k ∷ kept) h =
+      λ i. relation_need (sum_by (λ (w : WayShape). length w.points) (same-chosen (first_each k.members) (first-each (λ id. one id ≡ other id) k.members h.0) i)) ∷ same-needs kept h.1 i
+
+-- The member ways of kept relations have in a store of the needed ways, whose nodes a store of the needed nodes has, the shapes of the extract.
+pub members-shaped : (parts : Parts) (set both : Unit → Unit → Unit) (blocks : List (ℕ × Block)) (kept : List KeptRelation) (ways needed : List (Entry Unit)) (store : List (Entry Located)) (shapes : List (Entry Shaped))
     → Pairs (λ m n. m.0 ≢ n.0) (all_nodes blocks) → Pairs (λ m n. m.0 ≢ n.0) (all_ways blocks) → IsJoinOf set (entries_of (flat_map (λ (k : KeptRelation). k.members) kept)) ways
     → IsJoinOf both (entries_of (all_refs parts (is_needed ways) blocks)) needed → IsJoinOf located_join (flat_map (λ b. located_in needed b.0 b.1.nodes) blocks) store
     → IsJoinOf shaped_join (flat_map (λ b. shaped_in ways (locate_in store) b.0 b.1.ways) blocks) shapes
-    → flat_map (kept_features parts (shape_in shapes)) kept ≡ flat_map (kept_features parts (shape_of blocks)) kept
-kept-shaped parts set both blocks kept ways needed store shapes nodes-apart ways-apart members nodes is put =
+    → AllByRecursion (λ (k : KeptRelation). AllByRecursion (λ id. shape_in shapes id ≡ shape_of blocks id) k.members) kept
+members-shaped parts set both blocks kept ways needed store shapes nodes-apart ways-apart members nodes is put =
     let one = locate_in store in
     let other = location_of blocks in
     let same = all-same parts ways one other blocks (needed-located parts (is_needed ways) both blocks needed store nodes-apart nodes is) in
     let each : (id : OsmId) → is_needed ways id ≡ true → shape_in shapes id ≡ shape_of blocks id = λ id h. shaped ways one blocks shapes ways-apart put id h ∙ latest-same parts ways one other (all_ways blocks) id same h in
-    same-kept parts (shape_in shapes) (shape_of blocks) kept
-    (each-given (λ id. shape_in shapes id ≡ shape_of blocks id) (λ (k : KeptRelation). k.members) kept
-    (each_weaker (λ id. is_needed ways id ≡ true) (λ id. shape_in shapes id ≡ shape_of blocks id) each (flat_map (λ (k : KeptRelation). k.members) kept) (set-has set (flat_map (λ (k : KeptRelation). k.members) kept) ways members)))
+    each-given (λ id. shape_in shapes id ≡ shape_of blocks id) (λ (k : KeptRelation). k.members) kept
+    (each_weaker (λ id. is_needed ways id ≡ true) (λ id. shape_in shapes id ≡ shape_of blocks id) each (flat_map (λ (k : KeptRelation). k.members) kept) (set-has set (flat_map (λ (k : KeptRelation). k.members) kept) ways members))
+
+-- So the features of kept relations by the store are those by the shapes of the extract, and their needs likewise.
+pub kept-shaped : (parts : Parts) (blocks : List (ℕ × Block)) (kept : List KeptRelation) (shapes : List (Entry Shaped))
+    → AllByRecursion (λ (k : KeptRelation). AllByRecursion (λ id. shape_in shapes id ≡ shape_of blocks id) k.members) kept → flat_map (kept_features parts (shape_in shapes)) kept ≡ flat_map (kept_features parts (shape_of blocks)) kept
+kept-shaped parts blocks kept shapes h = same-kept parts (shape_in shapes) (shape_of blocks) kept h

@@ -1,5 +1,5 @@
 -- Walks over ways, one by one, and the ends of a way.
-use Rattle.std.proofs.Common.{◌≡◌, ℕ, suc, ◌+◌, ◌-◌, ◌<◌, ◌≤◌, Bool, true, false, true≢false, cond, not, ◌||◌, nat_le, Option, None, option_map, List, [], ◌∷◌, ◌++◌, length, take, get_or, map, filter, refl, sym, ap, ◌∙◌, arith, if◌then◌else◌}
+use Rattle.std.proofs.Common.{◌≡◌, ℕ, ◌+◌, ◌-◌, ◌<◌, ◌≤◌, Bool, true, false, true≢false, cond, not, ◌||◌, nat_le, Option, None, option_map, List, [], ◌∷◌, ◌++◌, length, take, get_or, map, filter, refl, sym, ap, ◌∙◌, arith, if◌then◌else◌}
 use Rattle.std.proofs.lemmas.List.{take_more, append-nil, map-append}
 use Rattle.std.proofs.lemmas.List.Elements.{filter-append}
 use Rattle.std.proofs.lemmas.Bool.Decides.{nat_tests, Decides-int_eq}
@@ -8,12 +8,11 @@ use Rattle.tb_types.specs.declared.element.OsmId.{OsmId}
 use Rattle.tb_types.specs.declared.location.World.{World}
 use Rattle.osm_elements.specs.declared.element.WayEl.{WayEl}
 use Rattle.ring_assembly.specs.Chains.{same_node}
-use Rattle.ring_assembly.specs.declared.way.WayShape.{WayShape}
 use Rattle.shard_store.proofs.Joins.{same_id}
 use Rattle.shard_store.specs.Join.{Entry}
 use Rattle.member_sets.specs.declared.unit.Unit.{Unit}
 use Rattle.tile_model.specs.Relations.{last_of, way_along, first_each}
-use Rattle.tile_model.specs.Ways.{all_located, path_of}
+use Rattle.tile_model.specs.Ways.{all_located}
 use Rattle.pass_shapes.specs.Stores.{is_needed, shaped_entry, shaped_in}
 use Rattle.pass_shapes.proofs.Latest.{by_test}
 use Rattle.pass_shapes.proofs.Walks.{walk-next}

@@ -1,5 +1,5 @@
 -- The items of the pieces of a feature.
-use Rattle.std.specs.Prelude.{◌≡◌, ℕ, Option, None, Some, List, [], ◌++◌, map}
+use Rattle.std.specs.Prelude.{ℕ, Option, None, Some, List, []}
 use Rattle.tb_types.specs.declared.shape.Shape.{Shape}
 use Rattle.tb_types.specs.declared.tile.TileXyz.{TileXyz}
 use Rattle.profile_rules.specs.declared.spec.Spec.{Spec}
@@ -15,11 +15,6 @@ use Rattle.pass_shapes.specs.declared.pieces.Label.{Label}
 -- the item of a piece in its tile
 abbrev pub item_of : Label → TileXyz × Shape → RunItem
 item_of label given = record { key = record label.key { tile = number_of given.0 }; row = row_of label.id label.attributes given.1 }
-
--- these pieces became items behind the old ones
-pub record Keeps (one : Label) (old : List RunItem) (pieces : List (TileXyz × Shape)) (other : Label) (new : List RunItem) : Type 0 where
-  pub same : other ≡ one
-  pub adds : new ≡ old ++ map (item_of one) pieces
 
 -- the pieces of a shape on the grid of a zoom, if something of it is left there
 abbrev pub pieces_if : ℕ → ℕ → Option Shape → List (TileXyz × Shape)

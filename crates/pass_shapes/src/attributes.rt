@@ -1,11 +1,15 @@
-ghost use Rattle.std.specs.Prelude.{◌≡◌, IfOk};
+ghost use Rattle.std.specs.Prelude.{◌≡◌, IfOk, OnOk, All};
+ghost use Rattle.profile_rules.specs.Sound.{IsSoundAttr, IsSoundValue};
+ghost use Rattle.mvt_codec.specs.Again.{FitsAttribute, FitsValue};
 
 use std::alloc::Global;
 use tb_types::{Attr, AttrValue, Memory, Seq, Text};
 
-/// A copy of attributes.
+/// A copy of attributes, which are within their types.
 pub fn copy_of(alloc: Global, attributes: &[Attr]) -> Result<Seq<Attr>, Memory>
-    ensures { IfOk result (λ copy. copy ≡ attributes.now) }
+    requires { All IsSoundAttr attributes.now }
+    ensures exact { IfOk result (λ copy. copy ≡ attributes.now) }
+    ensures fits { OnOk result (All FitsAttribute attributes.now) }
 {
     let mut copy = Vec::with_capacity(alloc, attributes.len())?;
     for attribute in attributes {
@@ -15,7 +19,9 @@ pub fn copy_of(alloc: Global, attributes: &[Attr]) -> Result<Seq<Attr>, Memory>
 }
 
 fn attribute_of(alloc: Global, attribute: &Attr) -> Result<Attr, Memory>
-    ensures { IfOk result (λ copy. copy ≡ attribute.now) }
+    requires { IsSoundAttr attribute.now }
+    ensures exact { IfOk result (λ copy. copy ≡ attribute.now) }
+    ensures fits { OnOk result (FitsAttribute attribute.now) }
 {
     let name = Text::copy_of(alloc, attribute.name.as_str())?;
     let value = value_of(alloc, &attribute.value)?;
@@ -23,7 +29,9 @@ fn attribute_of(alloc: Global, attribute: &Attr) -> Result<Attr, Memory>
 }
 
 fn value_of(alloc: Global, value: &AttrValue) -> Result<AttrValue, Memory>
-    ensures { IfOk result (λ copy. copy ≡ value.now) }
+    requires { IsSoundValue value.now }
+    ensures exact { IfOk result (λ copy. copy ≡ value.now) }
+    ensures fits { OnOk result (FitsValue value.now) }
 {
     match value {
         AttrValue::Text(text) => Ok(AttrValue::Text(Text::copy_of(alloc, text.as_str())?)),

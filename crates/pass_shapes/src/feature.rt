@@ -1,57 +1,64 @@
-ghost use Rattle.std.specs.Prelude.{◌≡◌, ◌+◌, ◌-◌, ◌<◌, ◌≤◌, ◌^◌, false, length, min, OnOk};
+ghost use Rattle.std.specs.Prelude.{◌≡◌, ◌+◌, ◌-◌, ◌<◌, ◌≤◌, ◌^◌, false, length, map, min};
+ghost use Rattle.profile_rules.specs.Fields.{layers_of};
 ghost use Rattle.profile_rules.specs.Sound.{IsSound, IsSoundSpec};
 ghost use Rattle.tb_types.specs.Bags.{total};
 ghost use Rattle.strip_clip.specs.CleanCuts.{points_of, polygon_points};
-ghost use Rattle.tile_model.specs.Items.{Gains};
+ghost use Rattle.tile_clip.specs.Pieces.{pieces_of};
 ghost use Rattle.tile_model.specs.Rows.{shape_feature};
 ghost use Rattle.tile_model.specs.Tiles.{feature_items};
-ghost use Rattle.pass_shapes.specs.Pieces.{label_of, Keeps, pieces_at};
+ghost use Rattle.pass_shapes.specs.Labels.{IsSoundLabel};
+ghost use Rattle.pass_shapes.specs.Emitting.{Emits};
+ghost use Rattle.pass_shapes.specs.Pieces.{item_of, label_of, pieces_at};
 
 use crate::id::feature_id;
 use crate::layer::{buffer_of, tolerance_at};
 use crate::numbers::POINT_LIMIT;
 use crate::pieces::{Label, Pieces};
 use crate::simple::simple_shape;
-use mvt_codec::{ItemKey, RunItem};
+use feature_runs::{RunBuffer, Spill, SpillErr};
+use mvt_codec::ItemKey;
 use profile_rules::{Profile, Spec};
 use std::alloc::Global;
-use std::mem::replace;
-use tb_types::{Grid, GridPolygon, Memory, Seq, Shape};
+use tb_types::{Grid, GridPolygon, Seq, Shape};
 use tile_clip::{ClipErr, for_tiles};
 use tile_model::{Origin, WorldShape};
 
 /// Adds the items of a feature: of an element's shape what a spec makes of it, at each of the spec's zooms, in each tile in
 /// which the cut leaves something of it.
-pub fn put_feature(
-    items: &mut Vec<RunItem>,
+pub fn put_feature<S: Spill>(
+    buffer: &mut RunBuffer,
+    spill: &mut S,
     alloc: Global,
     profile: &Profile,
     origin: Origin,
     shape: &WorldShape,
     spec: Spec,
-) -> Result<(), Memory>
+) -> Result<(), SpillErr>
     requires sound { IsSound profile.now }
     requires spec { IsSoundSpec profile.now spec }
-    ensures { OnOk result (Gains profile.now (feature_items (shape_feature profile.now origin shape.now spec)) items.old.items items.new.items) }
+    ensures { Emits profile.now (feature_items (shape_feature profile.now origin shape.now spec)) (S.seen spill.old) (S.seen spill.new) buffer.old buffer.new result }
 {
-    let buffer = buffer_of(profile, &spec);
+    let width = buffer_of(profile, &spec);
     let (layer, min, max) = (spec.layer, spec.min, spec.max);
-    let mut pieces = Pieces {
-        alloc,
-        label: label_of(origin, spec),
-        items: replace(items, Vec::new(alloc)),
-    };
+    let label = label_of(profile, origin, spec);
     for zoom in min..max + 1 {
         let tolerance = tolerance_at(profile, layer, zoom);
-        put_zoom(&mut pieces, alloc, shape, zoom, tolerance, buffer)?;
+        match put_zoom(
+            buffer, spill, alloc, profile, &label, shape, zoom, tolerance, width,
+        ) {
+            Ok(()) => {}
+            Err(e) => return Err(e),
+        }
     }
-    *items = pieces.items;
     Ok(())
 }
 
 // What the items of a feature have in common.
-fn label_of(origin: Origin, spec: Spec) -> Label
-    ensures { result ≡ label_of origin spec }
+fn label_of(profile: &Profile, origin: Origin, spec: Spec) -> Label
+    requires sound { IsSound profile.now }
+    requires spec { IsSoundSpec profile.now spec }
+    ensures exact { result ≡ label_of origin spec }
+    ensures sound { IsSoundLabel (length (layers_of profile.now)) result }
 {
     Label {
         key: ItemKey {
@@ -68,29 +75,62 @@ fn label_of(origin: Origin, spec: Spec) -> Label
 }
 
 // Adds the items of a feature at a zoom.
-fn put_zoom(
-    pieces: &mut Pieces,
+fn put_zoom<S: Spill>(
+    buffer: &mut RunBuffer,
+    spill: &mut S,
     alloc: Global,
+    profile: &Profile,
+    label: &Label,
     shape: &WorldShape,
     zoom: u8,
     tolerance: u32,
-    buffer: u32,
-) -> Result<(), Memory>
+    width: u32,
+) -> Result<(), SpillErr>
+    requires sound { IsSound profile.now }
+    requires label { IsSoundLabel (length (layers_of profile.now)) label.now }
     requires zoom { zoom ≤ 14 }
     requires tolerance { tolerance ≤ 64 }
-    requires buffer { buffer ≤ 256 }
-    ensures { OnOk result (Keeps pieces.old.label pieces.old.items.items (pieces_at zoom tolerance buffer shape.now) pieces.new.label pieces.new.items.items) }
+    requires width { width ≤ 256 }
+    ensures { Emits profile.now (map (item_of label.now) (pieces_at zoom tolerance width shape.now)) (S.seen spill.old) (S.seen spill.new) buffer.old buffer.new result }
 {
-    let Some(simple) = simple_shape(alloc, shape, zoom, tolerance)? else {
-        return Ok(());
-    };
-    if is_too_large(&simple) {
-        return Err(Memory);
+    match simple_shape(alloc, shape, zoom, tolerance) {
+        Ok(Some(simple)) => put_pieces(buffer, spill, alloc, profile, label, &simple, zoom, width),
+        Ok(None) => Ok(()),
+        Err(_) => Err(SpillErr::Memory),
     }
-    match for_tiles(alloc, &simple, zoom, buffer, pieces) {
+}
+
+// Adds the items of the pieces of a shape on the grid of a zoom.
+fn put_pieces<'a, S: Spill>(
+    buffer: &'a mut RunBuffer,
+    spill: &'a mut S,
+    alloc: Global,
+    profile: &'a Profile,
+    label: &'a Label,
+    simple: &Shape,
+    zoom: u8,
+    width: u32,
+) -> Result<(), SpillErr>
+    requires sound { IsSound profile.now }
+    requires label { IsSoundLabel (length (layers_of profile.now)) label.now }
+    requires zoom { zoom ≤ 14 }
+    requires width { width ≤ 256 }
+    ensures { Emits profile.now (map (item_of label.now) (pieces_of zoom width simple.now)) (S.seen spill.old) (S.seen spill.new) buffer.old buffer.new result }
+{
+    if is_too_large(simple) {
+        return Err(SpillErr::Memory);
+    }
+    let mut pieces = Pieces {
+        buffer,
+        spill,
+        alloc,
+        profile,
+        label,
+    };
+    match for_tiles(alloc, simple, zoom, width, &mut pieces) {
         Ok(()) => Ok(()),
-        Err(ClipErr::Taker(Memory)) => Err(Memory),
-        Err(ClipErr::Memory) => Err(Memory),
+        Err(ClipErr::Taker(stop)) => Err(stop),
+        Err(ClipErr::Memory) => Err(SpillErr::Memory),
     }
 }
 

@@ -1,6 +1,8 @@
-ghost use Rattle.std.specs.Prelude.{◌≡◌, Option, option_map, filter_map, IfOk};
+ghost use Rattle.std.specs.Prelude.{◌≡◌, ◌-◌, ◌^◌, Option, option_map, filter_map, min, IfOk};
 ghost use Rattle.ring_assembly.specs.declared.way.WayShape.{WayShape};
+ghost use Rattle.tile_model.specs.Needs.{member_points};
 ghost use Rattle.tile_model.specs.Relations.{first_each};
+ghost use Rattle.pass_shapes.specs.Kept.{points_at};
 ghost use Rattle.pass_shapes.specs.Stores.{shape_in};
 
 use indexmap::IndexSet;
@@ -22,6 +24,32 @@ pub fn member_ways(alloc: Global, shapes: &Shapes, ids: &[OsmId]) -> Result<Vec<
         }
     }
     Ok(ways)
+}
+
+/// How many points the shapes of ways of these ids have together, each way once, up to the largest number of 64 bits.
+#[tactic(auto, using(crate::proofs::MemberPoints::points_next))]
+pub fn count_points(alloc: Global, shapes: &Shapes, ids: &[OsmId]) -> Result<u64, Memory>
+    ensures { IfOk result (λ count. count ≡ min (member_points (shape_in shapes.now) ids.now) (2 ^ 64 - 1)) }
+{
+    let first = first_each(alloc, ids)?;
+    let mut count = 0u64;
+    for id in first.as_slice() {
+        count = count.saturating_add(points_of(shapes, *id));
+    }
+    Ok(count)
+}
+
+// How many points the shape of a way has, or 0 where it has none.
+fn points_of(shapes: &Shapes, id: OsmId) -> u64
+    ensures { result ≡ points_at (shape_in shapes.now) id }
+{
+    match shapes.get(id) {
+        Some(shaped) => match &shaped.shape {
+            Some(way) => way.points.as_slice().len() as u64,
+            None => 0,
+        },
+        None => 0,
+    }
 }
 
 // Each id at its first occurrence.

@@ -1,18 +1,22 @@
-ghost use Rattle.std.specs.Prelude.{◌≡◌, ◌++◌, ◌<◌, ◌≤◌, ◌^◌, All, IfOk, OnOk, flat_map, map};
+ghost use Rattle.std.specs.Prelude.{◌≡◌, ◌<◌, ◌≤◌, ◌^◌, [], ◌∷◌, All, IfOk, flat_map, length, map};
+ghost use Rattle.profile_rules.specs.Fields.{layers_of};
 ghost use Rattle.profile_rules.specs.Sound.{IsSound, IsSoundSpec};
-ghost use Rattle.tile_model.specs.Points.{node_features, point_feature, point_ints, point_of, projected, reach_tiles, AreFew, IsOnGrid};
+ghost use Rattle.tile_model.specs.Points.{node_features, node_origin, point_feature, point_ints, point_of, projected, reach_tiles, AreFew, IsOnGrid};
+ghost use Rattle.pass_shapes.specs.Emitting.{Emits};
 ghost use Rattle.tile_model.specs.Rows.{feature_id};
 ghost use Rattle.tile_model.specs.World.{grid_point};
 ghost use Rattle.tb_types.specs.Zigzag.{zigzag_of};
 ghost use Rattle.tile_model.specs.Tiles.{emitted_items, feature_items, zoom_items};
 ghost use Rattle.tb_types.specs.declared.element.Kind.TheVariants as kinds;
-ghost use Rattle.tile_model.specs.Items.{column_tiles, item_in, Gains};
+ghost use Rattle.tile_model.specs.Items.{column_tiles, item_in, IsSoundItem};
 
 use crate::attributes::copy_of;
+use crate::emit::emit_item;
 use crate::id::feature_id;
 use crate::layer::buffer_of;
 use crate::numbers::MOVE_TO_ONE;
 use crate::simple::grid_point;
+use feature_runs::{RunBuffer, Spill, SpillErr};
 use hilbert_ids::id_of;
 use int_mercator::{Table, project};
 use mvt_codec::{ItemKey, RunItem, TileRow};
@@ -23,90 +27,120 @@ use std::alloc::Global;
 use tb_types::{Grid, Kind, LatLon, Memory, Place, Seq, TileXyz, World, zigzag};
 use tile_model::{Reach, Strips, from_corner, reach_of_point};
 
-/// Adds the items of the nodes of a block.
-pub fn put_points(
-    items: &mut Vec<RunItem>,
+/// Adds the items of the nodes of a block to a buffer, which writes them to a spill as sorted runs.
+///
+/// `Failed` comes only where the spill's count of faults rose, and then the buffer isn't used again.
+pub fn put_points<S: Spill>(
+    buffer: &mut RunBuffer,
+    spill: &mut S,
     alloc: Global,
     profile: &Profile,
     table: &Table,
     block: u32,
     nodes: &[NodeEl],
-) -> Result<(), Memory>
+) -> Result<(), SpillErr>
     requires sound { IsSound profile.now }
-    ensures { OnOk result (Gains profile.now (emitted_items (flat_map (node_features profile.now block) nodes.now)) items.old.items items.new.items) }
+    ensures { Emits profile.now (emitted_items (flat_map (node_features profile.now block) nodes.now)) (S.seen spill.old) (S.seen spill.new) buffer.old buffer.new result }
 {
     for node in nodes {
-        put_items(items, alloc, profile, table, block, node)?;
+        match put_items(buffer, spill, alloc, profile, table, block, node) {
+            Ok(()) => {}
+            Err(e) => return Err(e),
+        }
     }
     Ok(())
 }
 
 // Adds the items of a node of a block, if it has a location: for each spec that the rules of the profile make of it a point
 // at each of the spec's zooms, in each tile whose buffer holds it. Most nodes have no spec, and aren't projected.
-fn put_items(
-    items: &mut Vec<RunItem>,
+fn put_items<S: Spill>(
+    buffer: &mut RunBuffer,
+    spill: &mut S,
     alloc: Global,
     profile: &Profile,
     table: &Table,
     block: u32,
     node: &NodeEl,
-) -> Result<(), Memory>
+) -> Result<(), SpillErr>
     requires sound { IsSound profile.now }
-    ensures { OnOk result (Gains profile.now (emitted_items (node_features profile.now block node.now)) items.old.items items.new.items) }
+    ensures { Emits profile.now (emitted_items (node_features profile.now block node.now)) (S.seen spill.old) (S.seen spill.new) buffer.old buffer.new result }
 {
-    let specs = specs(alloc, profile, &node.tags, Kind::Node)?;
+    let specs = match specs(alloc, profile, &node.tags, Kind::Node) {
+        Ok(specs) => specs,
+        Err(_) => return Err(SpillErr::Memory),
+    };
     if specs.as_slice().is_empty() {
         return Ok(());
     }
     match point_of(table, node) {
         None => Ok(()),
-        Some(point) => put_each(items, alloc, profile, block, node, point, specs.as_slice()),
+        Some(point) => put_each(
+            buffer,
+            spill,
+            alloc,
+            profile,
+            block,
+            node,
+            point,
+            specs.as_slice(),
+        ),
     }
 }
 
 // Adds the items of specs, one after another.
-fn put_each(
-    items: &mut Vec<RunItem>,
+fn put_each<S: Spill>(
+    buffer: &mut RunBuffer,
+    spill: &mut S,
     alloc: Global,
     profile: &Profile,
     block: u32,
     node: &NodeEl,
     point: World,
     specs: &[Spec],
-) -> Result<(), Memory>
+) -> Result<(), SpillErr>
     requires sound { IsSound profile.now }
     requires specs { All (IsSoundSpec profile.now) specs.now }
-    ensures { OnOk result (Gains profile.now (emitted_items (map (point_feature profile.now block node.now point) specs.now)) items.old.items items.new.items) }
+    ensures { Emits profile.now (emitted_items (map (point_feature profile.now block node.now point) specs.now)) (S.seen spill.old) (S.seen spill.new) buffer.old buffer.new result }
 {
     for spec in specs {
-        put_spec(items, alloc, profile, block, node, point, spec)?;
+        match put_spec(buffer, spill, alloc, profile, block, node, point, spec) {
+            Ok(()) => {}
+            Err(e) => return Err(e),
+        }
     }
     Ok(())
 }
 
 // Adds the items of a spec, zoom after zoom.
-fn put_spec(
-    items: &mut Vec<RunItem>,
+fn put_spec<S: Spill>(
+    buffer: &mut RunBuffer,
+    spill: &mut S,
     alloc: Global,
     profile: &Profile,
     block: u32,
     node: &NodeEl,
     point: World,
     spec: &Spec,
-) -> Result<(), Memory>
+) -> Result<(), SpillErr>
     requires sound { IsSound profile.now }
     requires spec { IsSoundSpec profile.now spec.now }
-    ensures { OnOk result (Gains profile.now (feature_items (point_feature profile.now block node.now point spec.now)) items.old.items items.new.items) }
+    ensures { Emits profile.now (feature_items (point_feature profile.now block node.now point spec.now)) (S.seen spill.old) (S.seen spill.new) buffer.old buffer.new result }
 {
     for zoom in spec.min..spec.max + 1 {
-        put_zoom(items, alloc, profile, block, node, point, spec, zoom)?;
+        match put_zoom(
+            buffer, spill, alloc, profile, block, node, point, spec, zoom,
+        ) {
+            Ok(()) => {}
+            Err(e) => return Err(e),
+        }
     }
     Ok(())
 }
 
 // Adds the items of a spec at a zoom.
-fn put_zoom(
-    items: &mut Vec<RunItem>,
+fn put_zoom<S: Spill>(
+    buffer: &mut RunBuffer,
+    spill: &mut S,
     alloc: Global,
     profile: &Profile,
     block: u32,
@@ -114,46 +148,59 @@ fn put_zoom(
     point: World,
     spec: &Spec,
     zoom: u8,
-) -> Result<(), Memory>
+) -> Result<(), SpillErr>
     requires sound { IsSound profile.now }
     requires spec { IsSoundSpec profile.now spec.now }
     requires first { spec.now.min ≤ zoom }
     requires last { zoom ≤ spec.now.max }
-    ensures { OnOk result (Gains profile.now (zoom_items (point_feature profile.now block node.now point spec.now) zoom) items.old.items items.new.items) }
+    ensures { Emits profile.now (zoom_items (point_feature profile.now block node.now point spec.now) zoom) (S.seen spill.old) (S.seen spill.new) buffer.old buffer.new result }
 {
-    let buffer = buffer_of(profile, spec);
+    let width = buffer_of(profile, spec);
     let p = grid_point(point, zoom);
-    let reach = reach_of_point(p, zoom, buffer);
-    put_reach(items, alloc, block, node, spec, p, zoom, reach)
+    let reach = reach_of_point(p, zoom, width);
+    put_reach(
+        buffer, spill, alloc, profile, block, node, spec, p, zoom, reach,
+    )
 }
 
 // Adds the items in the tiles where columns and rows cross.
-fn put_reach(
-    items: &mut Vec<RunItem>,
+fn put_reach<S: Spill>(
+    buffer: &mut RunBuffer,
+    spill: &mut S,
     alloc: Global,
+    profile: &Profile,
     block: u32,
     node: &NodeEl,
     spec: &Spec,
     p: Grid,
     zoom: u8,
     reach: Reach,
-) -> Result<(), Memory>
+) -> Result<(), SpillErr>
+    requires sound { IsSound profile.now }
+    requires spec { IsSoundSpec profile.now spec.now }
     requires zoom { zoom ≤ 14 }
     requires grid { IsOnGrid zoom p }
     requires columns { AreFew zoom reach.columns }
     requires rows { AreFew zoom reach.rows }
-    ensures { OnOk result (items.new.items ≡ items.old.items ++ map (item_in block node.now spec.now p) (reach_tiles zoom reach)) }
+    ensures { Emits profile.now (map (item_in block node.now spec.now p) (reach_tiles zoom reach)) (S.seen spill.old) (S.seen spill.new) buffer.old buffer.new result }
 {
     for x in reach.columns.first..reach.columns.last + 1 {
-        put_column(items, alloc, block, node, spec, p, zoom, x, reach.rows)?;
+        match put_column(
+            buffer, spill, alloc, profile, block, node, spec, p, zoom, x, reach.rows,
+        ) {
+            Ok(()) => {}
+            Err(e) => return Err(e),
+        }
     }
     Ok(())
 }
 
 // Adds the items in the tiles of a column.
-fn put_column(
-    items: &mut Vec<RunItem>,
+fn put_column<S: Spill>(
+    buffer: &mut RunBuffer,
+    spill: &mut S,
     alloc: Global,
+    profile: &Profile,
     block: u32,
     node: &NodeEl,
     spec: &Spec,
@@ -161,35 +208,71 @@ fn put_column(
     zoom: u8,
     x: u32,
     rows: Strips,
-) -> Result<(), Memory>
+) -> Result<(), SpillErr>
+    requires sound { IsSound profile.now }
+    requires spec { IsSoundSpec profile.now spec.now }
     requires zoom { zoom ≤ 14 }
     requires grid { IsOnGrid zoom p }
     requires column { x < 2 ^ zoom }
     requires rows { AreFew zoom rows }
-    ensures { OnOk result (items.new.items ≡ items.old.items ++ map (item_in block node.now spec.now p) (column_tiles zoom x rows)) }
+    ensures { Emits profile.now (map (item_in block node.now spec.now p) (column_tiles zoom x rows)) (S.seen spill.old) (S.seen spill.new) buffer.old buffer.new result }
 {
     for y in rows.first..rows.last + 1 {
         let tile = TileXyz { z: zoom, x, y };
-        items.push(item_in(alloc, block, node, spec, p, tile)?)?;
+        match put_item(buffer, spill, alloc, profile, block, node, spec, p, tile) {
+            Ok(()) => {}
+            Err(e) => return Err(e),
+        }
     }
     Ok(())
+}
+
+// Adds the item of a node in a tile.
+fn put_item<S: Spill>(
+    buffer: &mut RunBuffer,
+    spill: &mut S,
+    alloc: Global,
+    profile: &Profile,
+    block: u32,
+    node: &NodeEl,
+    spec: &Spec,
+    p: Grid,
+    tile: TileXyz,
+) -> Result<(), SpillErr>
+    requires sound { IsSound profile.now }
+    requires spec { IsSoundSpec profile.now spec.now }
+    requires zoom { tile.z ≤ 14 }
+    requires grid { IsOnGrid tile.z p }
+    requires column { tile.x < 2 ^ tile.z }
+    requires row { tile.y < 2 ^ tile.z }
+    requires low { (tile.x ≤ 16383) × (tile.y ≤ 16383) }
+    ensures { Emits profile.now (item_in block node.now spec.now p tile ∷ []) (S.seen spill.old) (S.seen spill.new) buffer.old buffer.new result }
+{
+    match item_in(alloc, profile, block, node, spec, p, tile) {
+        Ok(item) => emit_item(buffer, spill, profile, item),
+        Err(_) => Err(SpillErr::Memory),
+    }
 }
 
 // The item of a node in a tile, where its point is at a place of the tile's grid.
 fn item_in(
     alloc: Global,
+    profile: &Profile,
     block: u32,
     node: &NodeEl,
     spec: &Spec,
     p: Grid,
     tile: TileXyz,
 ) -> Result<RunItem, Memory>
+    requires sound { IsSound profile.now }
+    requires spec { IsSoundSpec profile.now spec.now }
     requires zoom { tile.z ≤ 14 }
     requires grid { IsOnGrid tile.z p }
     requires column { tile.x < 2 ^ tile.z }
     requires row { tile.y < 2 ^ tile.z }
     requires low { (tile.x ≤ 16383) × (tile.y ≤ 16383) }
-    ensures { IfOk result (λ item. item ≡ item_in block node.now spec.now p tile) }
+    ensures exact { IfOk result (λ item. item ≡ item_in block node.now spec.now p tile) }
+    ensures sound { IfOk result (λ item. IsSoundItem (length (layers_of profile.now)) item) }
 {
     let ints = point_ints(alloc, from_corner(p, tile.z, tile))?;
     let attributes = copy_of(alloc, spec.attributes.as_slice())?;
@@ -199,10 +282,7 @@ fn item_in(
             layer: spec.layer,
             order: spec.order,
             kind: Kind::Node,
-            place: Place {
-                block,
-                index: node.index,
-            },
+            place: place_of(block, node),
             rule: spec.rule,
         },
         row: TileRow {
@@ -212,6 +292,15 @@ fn item_in(
             attributes,
         },
     })
+}
+
+fn place_of(block: u32, node: &NodeEl) -> Place
+    ensures { result ≡ (node_origin block node.now).place }
+{
+    Place {
+        block,
+        index: node.index,
+    }
 }
 
 // The point of a node, if it has a location.

@@ -1,18 +1,18 @@
-ghost use Rattle.std.specs.Prelude.{◌≡◌, ◌<◌, ◌∷◌, [], IfOk, OnOk, All, Some, filter_map, flat_map, length};
+ghost use Rattle.std.specs.Prelude.{◌≡◌, ◌<◌, ◌∷◌, [], IfOk, All, Some, filter_map, flat_map, length};
 ghost use Rattle.profile_rules.specs.declared.parts.Form.TheVariants as forms;
 ghost use Rattle.profile_rules.specs.Sound.{IsSound, IsSoundSpec};
-ghost use Rattle.tile_model.specs.Items.{Gains};
 ghost use Rattle.tile_model.specs.Relations.{polygons_of, relation_shape};
 ghost use Rattle.tile_model.specs.Rows.{form_feature, shape_feature};
 ghost use Rattle.tile_model.specs.Tiles.{emitted_items, feature_items};
+ghost use Rattle.pass_shapes.specs.Emitting.{Emits};
 ghost use Rattle.pass_shapes.specs.Kept.{kept_features, kept_origin, IsSoundKept};
 ghost use Rattle.pass_shapes.specs.Stores.{shape_in};
 
 use crate::attributes::copy_of;
 use crate::feature::put_feature;
 use crate::member_ways::member_ways;
+use feature_runs::{RunBuffer, Spill, SpillErr};
 use member_sets::KeptRelation;
-use mvt_codec::RunItem;
 use node_store::Shapes;
 use profile_rules::{Form, Profile, Spec};
 use ring_assembly::{Polygon, assemble, nest};
@@ -21,41 +21,51 @@ use tb_types::{Kind, Memory, Seq};
 use tile_model::{Origin, WorldShape};
 
 /// Adds the items of kept relations: of each that has a polygon, for each of its specs, its area.
-pub fn put_relations(
-    items: &mut Vec<RunItem>,
+///
+/// `Failed` comes only where the spill's count of faults rose, and then the buffer isn't used again.
+pub fn put_relations<S: Spill>(
+    buffer: &mut RunBuffer,
+    spill: &mut S,
     alloc: Global,
     profile: &Profile,
     shapes: &Shapes,
     kept: &[KeptRelation],
-) -> Result<(), Memory>
+) -> Result<(), SpillErr>
     requires sound { IsSound profile.now }
     requires specs { All (IsSoundKept profile.now) kept.now }
-    ensures { OnOk result (Gains profile.now (emitted_items (flat_map (kept_features profile.now (shape_in shapes.now)) kept.now)) items.old.items items.new.items) }
+    ensures { Emits profile.now (emitted_items (flat_map (kept_features profile.now (shape_in shapes.now)) kept.now)) (S.seen spill.old) (S.seen spill.new) buffer.old buffer.new result }
 {
     for relation in kept {
-        put_relation(items, alloc, profile, shapes, relation)?;
+        match put_relation(buffer, spill, alloc, profile, shapes, relation) {
+            Ok(()) => {}
+            Err(e) => return Err(e),
+        }
     }
     Ok(())
 }
 
 // Adds the items of a relation.
-fn put_relation(
-    items: &mut Vec<RunItem>,
+fn put_relation<S: Spill>(
+    buffer: &mut RunBuffer,
+    spill: &mut S,
     alloc: Global,
     profile: &Profile,
     shapes: &Shapes,
     relation: &KeptRelation,
-) -> Result<(), Memory>
+) -> Result<(), SpillErr>
     requires sound { IsSound profile.now }
     requires specs { IsSoundKept profile.now relation.now }
-    ensures { OnOk result (Gains profile.now (emitted_items (kept_features profile.now (shape_in shapes.now) relation.now)) items.old.items items.new.items) }
+    ensures { Emits profile.now (emitted_items (kept_features profile.now (shape_in shapes.now) relation.now)) (S.seen spill.old) (S.seen spill.new) buffer.old buffer.new result }
 {
-    let polygons = polygons_of(alloc, shapes, relation)?;
+    let polygons = match polygons_of(alloc, shapes, relation) {
+        Ok(polygons) => polygons,
+        Err(_) => return Err(SpillErr::Memory),
+    };
     if polygons.as_slice().is_empty() {
         return Ok(());
     }
     let area = WorldShape::Area(polygons);
-    put_specs(items, alloc, profile, shapes, relation, &area)
+    put_specs(buffer, spill, alloc, profile, shapes, relation, &area)
 }
 
 // The polygons of a relation's member ways.
@@ -72,70 +82,80 @@ fn polygons_of(
 }
 
 // Adds the items of a relation with this area, spec after spec.
-fn put_specs(
-    items: &mut Vec<RunItem>,
+fn put_specs<S: Spill>(
+    buffer: &mut RunBuffer,
+    spill: &mut S,
     alloc: Global,
     profile: &Profile,
     shapes: &Shapes,
     relation: &KeptRelation,
     area: &WorldShape,
-) -> Result<(), Memory>
+) -> Result<(), SpillErr>
     requires sound { IsSound profile.now }
     requires specs { IsSoundKept profile.now relation.now }
     requires area { relation_shape (shape_in shapes.now) relation.now.members forms.Area ≡ Some area.now }
-    ensures { OnOk result (Gains profile.now (emitted_items (kept_features profile.now (shape_in shapes.now) relation.now)) items.old.items items.new.items) }
+    ensures { Emits profile.now (emitted_items (kept_features profile.now (shape_in shapes.now) relation.now)) (S.seen spill.old) (S.seen spill.new) buffer.old buffer.new result }
 {
     for spec in relation.specs.as_slice() {
-        put_spec(items, alloc, profile, shapes, relation, area, spec)?;
+        match put_spec(buffer, spill, alloc, profile, shapes, relation, area, spec) {
+            Ok(()) => {}
+            Err(e) => return Err(e),
+        }
     }
     Ok(())
 }
 
 // Adds the items of a spec.
-fn put_spec(
-    items: &mut Vec<RunItem>,
+fn put_spec<S: Spill>(
+    buffer: &mut RunBuffer,
+    spill: &mut S,
     alloc: Global,
     profile: &Profile,
     shapes: &Shapes,
     relation: &KeptRelation,
     area: &WorldShape,
     spec: &Spec,
-) -> Result<(), Memory>
+) -> Result<(), SpillErr>
     requires sound { IsSound profile.now }
     requires spec { IsSoundSpec profile.now spec.now }
     requires area { relation_shape (shape_in shapes.now) relation.now.members forms.Area ≡ Some area.now }
-    ensures { OnOk result (Gains profile.now (emitted_items (filter_map (form_feature profile.now (kept_origin relation.now) (relation_shape (shape_in shapes.now) relation.now.members)) (spec.now ∷ []))) items.old.items items.new.items) }
+    ensures { Emits profile.now (emitted_items (filter_map (form_feature profile.now (kept_origin relation.now) (relation_shape (shape_in shapes.now) relation.now.members)) (spec.now ∷ []))) (S.seen spill.old) (S.seen spill.new) buffer.old buffer.new result }
 {
     match spec.form {
         Form::Point => Ok(()),
         Form::Line => Ok(()),
-        Form::Area => put_area(items, alloc, profile, relation, area, spec),
+        Form::Area => put_area(buffer, spill, alloc, profile, relation, area, spec),
     }
 }
 
 // Adds the items of an area that a spec makes of a relation.
-fn put_area(
-    items: &mut Vec<RunItem>,
+fn put_area<S: Spill>(
+    buffer: &mut RunBuffer,
+    spill: &mut S,
     alloc: Global,
     profile: &Profile,
     relation: &KeptRelation,
     area: &WorldShape,
     spec: &Spec,
-) -> Result<(), Memory>
+) -> Result<(), SpillErr>
     requires sound { IsSound profile.now }
     requires spec { IsSoundSpec profile.now spec.now }
-    ensures { OnOk result (Gains profile.now (feature_items (shape_feature profile.now (kept_origin relation.now) area.now spec.now)) items.old.items items.new.items) }
+    ensures { Emits profile.now (feature_items (shape_feature profile.now (kept_origin relation.now) area.now spec.now)) (S.seen spill.old) (S.seen spill.new) buffer.old buffer.new result }
 {
     let origin = Origin {
         kind: Kind::Relation,
         place: relation.place,
         id: relation.id,
     };
-    put_feature(items, alloc, profile, origin, area, spec_of(alloc, spec)?)
+    match spec_of(alloc, profile, spec) {
+        Ok(copy) => put_feature(buffer, spill, alloc, profile, origin, area, copy),
+        Err(_) => Err(SpillErr::Memory),
+    }
 }
 
 // A copy of a spec.
-fn spec_of(alloc: Global, spec: &Spec) -> Result<Spec, Memory>
+fn spec_of(alloc: Global, profile: &Profile, spec: &Spec) -> Result<Spec, Memory>
+    requires { IsSoundSpec profile.now spec.now }
     ensures { IfOk result (λ copy. copy ≡ spec.now) }
 {
     Ok(Spec {

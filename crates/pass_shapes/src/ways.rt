@@ -1,13 +1,13 @@
-ghost use Rattle.std.specs.Prelude.{◌≡◌, ◌∷◌, [], IfOk, OnOk, Some, All, filter_map, flat_map};
+ghost use Rattle.std.specs.Prelude.{◌≡◌, ◌∷◌, [], IfOk, Some, All, filter_map, flat_map};
 ghost use Rattle.profile_rules.specs.Sound.{IsSound, IsSoundSpec};
-ghost use Rattle.tile_model.specs.Items.{Gains};
 ghost use Rattle.tile_model.specs.Tiles.{emitted_items};
 ghost use Rattle.tile_model.specs.Ways.{path_of, ring_area, way_feature, way_features, way_origin, way_shape};
+ghost use Rattle.pass_shapes.specs.Emitting.{Emits};
 ghost use Rattle.pass_shapes.specs.Stores.{locate_in};
 
 use crate::feature::put_feature;
 use crate::path::{is_closed, path_of};
-use mvt_codec::RunItem;
+use feature_runs::{RunBuffer, Spill, SpillErr};
 use node_store::Locations;
 use osm_elements::WayEl;
 use profile_rules::{Form, Profile, Spec, specs};
@@ -18,48 +18,62 @@ use tile_model::{Origin, WorldShape};
 
 /// Adds the items of the ways of a block: of each way that has a shape, for each spec that the rules of the profile make of it,
 /// its line or its area.
-pub fn put_ways(
-    items: &mut Vec<RunItem>,
+///
+/// `Failed` comes only where the spill's count of faults rose, and then the buffer isn't used again.
+pub fn put_ways<S: Spill>(
+    buffer: &mut RunBuffer,
+    spill: &mut S,
     alloc: Global,
     profile: &Profile,
     locations: &Locations,
     block: u32,
     ways: &[WayEl],
-) -> Result<(), Memory>
+) -> Result<(), SpillErr>
     requires sound { IsSound profile.now }
-    ensures { OnOk result (Gains profile.now (emitted_items (flat_map (way_features profile.now (locate_in locations.now) block) ways.now)) items.old.items items.new.items) }
+    ensures { Emits profile.now (emitted_items (flat_map (way_features profile.now (locate_in locations.now) block) ways.now)) (S.seen spill.old) (S.seen spill.new) buffer.old buffer.new result }
 {
     for way in ways {
-        put_way(items, alloc, profile, locations, block, way)?;
+        match put_way(buffer, spill, alloc, profile, locations, block, way) {
+            Ok(()) => {}
+            Err(e) => return Err(e),
+        }
     }
     Ok(())
 }
 
 // Adds the items of a way.
-fn put_way(
-    items: &mut Vec<RunItem>,
+fn put_way<S: Spill>(
+    buffer: &mut RunBuffer,
+    spill: &mut S,
     alloc: Global,
     profile: &Profile,
     locations: &Locations,
     block: u32,
     way: &WayEl,
-) -> Result<(), Memory>
+) -> Result<(), SpillErr>
     requires sound { IsSound profile.now }
-    ensures { OnOk result (Gains profile.now (emitted_items (way_features profile.now (locate_in locations.now) block way.now)) items.old.items items.new.items) }
+    ensures { Emits profile.now (emitted_items (way_features profile.now (locate_in locations.now) block way.now)) (S.seen spill.old) (S.seen spill.new) buffer.old buffer.new result }
 {
-    let specs = specs(alloc, profile, &way.tags, Kind::Way)?;
+    let specs = match specs(alloc, profile, &way.tags, Kind::Way) {
+        Ok(specs) => specs,
+        Err(_) => return Err(SpillErr::Memory),
+    };
     if specs.as_slice().is_empty() {
         return Ok(());
     }
-    match path_of(alloc, locations, way.refs.as_slice())? {
-        Some(path) => put_specs(items, alloc, profile, locations, block, way, &path, specs),
-        None => Ok(()),
+    match path_of(alloc, locations, way.refs.as_slice()) {
+        Ok(Some(path)) => put_specs(
+            buffer, spill, alloc, profile, locations, block, way, &path, specs,
+        ),
+        Ok(None) => Ok(()),
+        Err(_) => Err(SpillErr::Memory),
     }
 }
 
 // Adds the items of a way along these points, spec after spec.
-fn put_specs(
-    items: &mut Vec<RunItem>,
+fn put_specs<S: Spill>(
+    buffer: &mut RunBuffer,
+    spill: &mut S,
     alloc: Global,
     profile: &Profile,
     locations: &Locations,
@@ -67,21 +81,27 @@ fn put_specs(
     way: &WayEl,
     path: &[World],
     specs: Seq<Spec>,
-) -> Result<(), Memory>
+) -> Result<(), SpillErr>
     requires sound { IsSound profile.now }
     requires specs { All (IsSoundSpec profile.now) specs }
     requires path { path_of (locate_in locations.now) way.now.refs ≡ Some path.now }
-    ensures { OnOk result (Gains profile.now (emitted_items (filter_map (way_feature profile.now (locate_in locations.now) block way.now) specs)) items.old.items items.new.items) }
+    ensures { Emits profile.now (emitted_items (filter_map (way_feature profile.now (locate_in locations.now) block way.now) specs)) (S.seen spill.old) (S.seen spill.new) buffer.old buffer.new result }
 {
     for spec in specs.into_vec() {
-        put_spec(items, alloc, profile, locations, block, way, path, spec)?;
+        match put_spec(
+            buffer, spill, alloc, profile, locations, block, way, path, spec,
+        ) {
+            Ok(()) => {}
+            Err(e) => return Err(e),
+        }
     }
     Ok(())
 }
 
 // Adds the items of a spec of a way.
-fn put_spec(
-    items: &mut Vec<RunItem>,
+fn put_spec<S: Spill>(
+    buffer: &mut RunBuffer,
+    spill: &mut S,
     alloc: Global,
     profile: &Profile,
     locations: &Locations,
@@ -89,15 +109,24 @@ fn put_spec(
     way: &WayEl,
     path: &[World],
     spec: Spec,
-) -> Result<(), Memory>
+) -> Result<(), SpillErr>
     requires sound { IsSound profile.now }
     requires spec { IsSoundSpec profile.now spec }
     requires path { path_of (locate_in locations.now) way.now.refs ≡ Some path.now }
-    ensures { OnOk result (Gains profile.now (emitted_items (filter_map (way_feature profile.now (locate_in locations.now) block way.now) (spec ∷ []))) items.old.items items.new.items) }
+    ensures { Emits profile.now (emitted_items (filter_map (way_feature profile.now (locate_in locations.now) block way.now) (spec ∷ []))) (S.seen spill.old) (S.seen spill.new) buffer.old buffer.new result }
 {
-    match shape_in(alloc, locations, way.refs.as_slice(), path, spec.form)? {
-        Some(shape) => put_feature(items, alloc, profile, origin_of(block, way), &shape, spec),
-        None => Ok(()),
+    match shape_in(alloc, locations, way.refs.as_slice(), path, spec.form) {
+        Ok(Some(shape)) => put_feature(
+            buffer,
+            spill,
+            alloc,
+            profile,
+            origin_of(block, way),
+            &shape,
+            spec,
+        ),
+        Ok(None) => Ok(()),
+        Err(_) => Err(SpillErr::Memory),
     }
 }
 

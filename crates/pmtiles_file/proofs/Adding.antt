@@ -192,6 +192,7 @@ add-answers old new id bytes spool after s u meta p entries count stand next fit
   meta = meta;
   added = λ runs tiles is wrote. tile-added old new id bytes s after.runs runs tiles wrote (p.told runs (contents_of tiles) is wrote.holds) entries count next fits some short;
   stands = p.stands stand;
+  untold = p.untold;
   kept = p.kept;
   counts = p.counts;
   never_falls = p.never_falls;

@@ -66,6 +66,7 @@ place-found d size bytes spool after n any hash is below finds same counts = rec
       subst (λ (r : Runs). HasPlace d after.runs r (with_content contents bytes) bytes (get_or d.stored n any)) (sym runs_are)
       (subst (λ (cs : List (List ℕ)). HasPlace d after.runs runs cs bytes (get_or d.stored n any)) (sym contents_are) place);
   stands = λ s. subst (λ (o : Option Runs). StandIn o d.stored) (sym same) s;
+  untold = λ none. same ∙ none;
   kept = kept-same spool.runs after.runs same;
   counts = counts;
   never_falls = omega (arith, counts);
@@ -106,6 +107,7 @@ place-new old new bytes spool mid after hash (Ok s) hashed some short finds same
           subst (λ (r : Runs). HasPlace new after.runs r (with_content contents bytes) bytes s) (runs-new runs bytes (list_any (bytes_eq bytes) contents) none)
           (subst (λ (cs : List (List ℕ)). HasPlace new after.runs (with_run runs bytes) cs bytes s) (with-new contents bytes (list_any (bytes_eq bytes) contents) none) place);
       stands = λ stand. subst (StandIn after.runs) (sym more.more) (ran-stands mid.runs after.runs old.stored s bytes p.stored p.number more.len (subst (λ (o : Option Runs). StandIn o old.stored) (sym same) stand));
+      untold = λ none. p.stored ∙ ap (λ o. ran o bytes) (same ∙ none);
       kept = kept-after spool.runs mid.runs after.runs same p.kept;
       counts = p.counts ∙ counts;
       never_falls = omega (arith, counts, p.never_falls);
@@ -114,10 +116,11 @@ place-new old new bytes spool mid after hash (Err e) hashed some short finds sam
   named = tt;
   told = tt;
   stands = tt;
+  untold = tt;
   kept = kept-after spool.runs mid.runs after.runs same p.kept;
   counts = counts-after Stored Stored e spool.faults mid.faults after.faults counts p.counts;
   never_falls = omega (arith, counts, p.never_falls);
 }
 
 pub place-failed : (old new : DistinctSeen) (bytes : List ℕ) (spool after : SpillSeen) → after.runs ≡ spool.runs → Rose spool.faults after.faults → spool.faults ≤ after.faults → PlaceAnswers old new bytes spool after (Err spill_errors.Failed)
-place-failed old new bytes spool after same rose falls = record { named = tt; told = tt; stands = tt; kept = kept-same spool.runs after.runs same; counts = rose; never_falls = falls }
+place-failed old new bytes spool after same rose falls = record { named = tt; told = tt; stands = tt; untold = tt; kept = kept-same spool.runs after.runs same; counts = rose; never_falls = falls }

@@ -1,5 +1,5 @@
 -- The distinct contents of a writer: where each lies in the spool and in the archive.
-use Rattle.std.specs.Prelude.{◌≡◌, ℕ, ◌+◌, ◌^◌, ◌<◌, ◌≤◌, if◌then◌else◌, Option, Some, List, [], ◌∷◌, ◌++◌, length, get_or, map, Result, IfOk, IfSome, OnOk}
+use Rattle.std.specs.Prelude.{◌≡◌, ℕ, ◌+◌, ◌^◌, ◌<◌, ◌≤◌, if◌then◌else◌, Option, None, Some, List, [], ◌∷◌, ◌++◌, length, get_or, map, Result, IfOk, IfSome, OnOk}
 use Rattle.std.specs.List.{concat, list_any}
 use Rattle.std.specs.Str.{bytes_eq}
 use Rattle.tb_outside.specs.declared.spill.SpillErr.{SpillErr}
@@ -79,6 +79,7 @@ pub record PlaceAnswers (old new : DistinctSeen) (bytes : List ℕ) (spool after
   pub named : IfOk result CanBeNamed
   pub told : IfOk result (λ s. (runs : Runs) (contents : List (List ℕ)) → spool.runs ≡ Some runs → Holds old runs.ended contents → HasPlace new after.runs (runs_with contents runs bytes) (with_content contents bytes) bytes s)
   pub stands : OnOk result (StandIn spool.runs old.stored → StandIn after.runs new.stored)
+  pub untold : OnOk result (spool.runs ≡ None → after.runs ≡ None)
   pub kept : KeepsEnded spool.runs after.runs
   pub counts : SpillCounts result spool.faults after.faults
   pub never_falls : spool.faults ≤ after.faults

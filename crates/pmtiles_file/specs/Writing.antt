@@ -1,5 +1,5 @@
 -- What a contract sees of a writer, and of the tiles that were added to it.
-use Rattle.std.specs.Prelude.{◌≡◌, ℕ, ◌+◌, ◌≤◌, Option, Some, List, [], ◌∷◌, ◌++◌, length, Result, OnOk, ⊤}
+use Rattle.std.specs.Prelude.{◌≡◌, ℕ, ◌+◌, ◌≤◌, Option, None, Some, List, [], ◌∷◌, ◌++◌, length, Result, OnOk, ⊤}
 use Rattle.tb_outside.specs.declared.spill.SpillErr.{SpillErr}
 use Rattle.tb_outside.specs.Spill.{SpillSeen, Runs}
 use Rattle.pmtiles_dirs.specs.declared.entry.DirEntry.{DirEntry}
@@ -43,6 +43,7 @@ pub record AddAnswers (old new : WriterSeen) (id : ℕ) (bytes : List ℕ) (spoo
   pub added : OnOk result ((runs : Runs) (tiles : List Tile) → spool.runs ≡ Some runs → Wrote old runs.ended tiles
       → HasAdded new after.runs (runs_with (contents_of tiles) runs bytes) (tiles ++ record { id = id; bytes = bytes } ∷ []))
   pub stands : OnOk result (RunsStand new after.runs)
+  pub untold : OnOk result (spool.runs ≡ None → after.runs ≡ None)
   pub kept : KeepsEnded spool.runs after.runs
   pub counts : SpillCounts result spool.faults after.faults
   pub never_falls : spool.faults ≤ after.faults

@@ -1,5 +1,6 @@
 -- The items of features, as a pass adds them.
-use Rattle.std.specs.Prelude.{◌≡◌, ℕ, ◌<◌, List, ◌++◌, All, length, map}
+use Rattle.std.specs.Prelude.{◌≡◌, ℕ, ◌<◌, ◌≤◌, true, List, ◌++◌, All, length, map}
+use Rattle.std.specs.List.{AllByRecursion}
 use Rattle.std.specs.List.Sorted.{IsPermutation}
 use Rattle.tb_types.specs.declared.element.Kind.TheVariants as kinds
 use Rattle.tb_types.specs.declared.location.Grid.{Grid}
@@ -10,8 +11,9 @@ use Rattle.profile_rules.specs.declared.spec.Spec.{Spec}
 use Rattle.profile_rules.specs.Fields.{layers_of}
 use Rattle.strip_clip.specs.Cuts.{corner_of, relative}
 use Rattle.hilbert_ids.specs.Ids.{number_of}
+use Rattle.mvt_geom.specs.Commands.{has_form}
 use Rattle.mvt_codec.specs.declared.item.RunItem.{RunItem}
-use Rattle.mvt_codec.specs.Groups.{IsWritableItem}
+use Rattle.mvt_codec.specs.Items.{tiles_end, Fits, IsNamed}
 use Rattle.tile_model.specs.Points.{point_ints, strips}
 use Rattle.tile_model.specs.Rows.{feature_id}
 use Rattle.tile_model.specs.declared.reach.Strips.{Strips}
@@ -27,9 +29,14 @@ item_in block n spec p tile = record {
 abbrev pub column_tiles : ℕ → ℕ → Strips → List TileXyz
 column_tiles zoom x rows = map (λ y. record { z = zoom; x = x; y = y }) (strips rows)
 
--- items of so many layers, whose whole numbers can be written
-abbrev pub IsSoundItem : ℕ → RunItem → Type 0
-IsSoundItem layers item = (item.key.layer < layers) × IsWritableItem item
+-- What passes make: an item of so many layers, which keeps to what stored items keep to but for its length.
+pub record IsSoundItem (layers : ℕ) (item : RunItem) : Type 0 where
+  pub layer : item.key.layer < layers
+  pub tile : item.key.tile < tiles_end
+  pub known : (1 ≤ item.row.form) × (item.row.form ≤ 3)
+  pub form : has_form item.row.form item.row.ints ≡ true
+  pub attributes : AllByRecursion IsNamed item.row.attributes
+  pub types : Fits item
 
 abbrev pub AreSound : Parts → List RunItem → Type 0
 AreSound parts items = All (IsSoundItem (length (layers_of parts))) items

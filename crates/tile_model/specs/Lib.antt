@@ -13,12 +13,14 @@ pub mod Extract
 pub mod Worked
 pub mod WorkedWays
 pub mod WorkedRelations
+pub mod WorkedNeeds
 pub mod PointLaws
 pub mod ExtractLaws
 pub mod Contents
 pub mod Bounds
 pub mod Map
 pub mod Items
+pub mod Needs
 pub mod Objects
 pub mod Stops
 pub mod From

@@ -1,6 +1,6 @@
 -- The map of an extract by a profile: its features, its tiles, and what its archive says of it.
-use Rattle.std.specs.Prelude.{ℕ, ◌^◌, nat_le, Bool, Option, List, [], ◌∷◌, length, map, flat_map}
-use Rattle.std.specs.List.{enumerate_from, list_any}
+use Rattle.std.specs.Prelude.{ℕ, Option, List, [], ◌∷◌, map, flat_map}
+use Rattle.std.specs.List.{enumerate_from}
 use Rattle.tb_types.specs.declared.location.Bounds.{Bounds}
 use Rattle.osm_elements.specs.declared.element.Block.{Block}
 use Rattle.profile_rules.specs.declared.parts.LayerInfo.{LayerInfo}
@@ -35,16 +35,13 @@ tile_from names group = record { id = group.0; bytes = text_of_items names group
 abbrev pub tiles_from : List (List ℕ) → List (ℕ × List RunItem) → List Tile
 tiles_from names groups = map (tile_from names) groups
 
--- the tiles of the profile's zooms that have rows, by ascending id
+-- the rows of each tile of the profile's zooms that has any, by ascending id
+abbrev pub groups_of : Parts → List Content → List (ℕ × List RunItem)
+groups_of parts contents = built_tiles (features_of parts (blocks_in contents)) parts.min parts.max
+
+-- these tiles
 abbrev pub tiles_of : Parts → List Content → List Tile
-tiles_of parts contents = tiles_from (layer_names parts) (built_tiles (features_of parts (blocks_in contents)) parts.min parts.max)
-
--- a tile has too many bytes for an entry of a directory: 4 GiB or more
-abbrev pub is_giant : Tile → Bool
-is_giant tile = nat_le (2 ^ 32) (length tile.bytes)
-
-abbrev pub has_giant : List Tile → Bool
-has_giant tiles = list_any is_giant tiles
+tiles_of parts contents = tiles_from (layer_names parts) (groups_of parts contents)
 
 -- what the metadata says of a layer: its id, and its fields with the kinds of their values
 abbrev pub meta_layer : Parts → ℕ × LayerInfo → MetaLayer

@@ -1,5 +1,5 @@
 -- The objects outside that a build uses, as a contract sees them at one moment, and their counts of faults.
-use Rattle.std.specs.Prelude.{◌≡◌, ℕ, zero, suc, ◌≤◌, Bool, true, false, ◌||◌, ◌&&◌, ◌==◌, nat_lt, Option, None, List, [], ◌∷◌}
+use Rattle.std.specs.Prelude.{◌≡◌, ℕ, zero, suc, ◌≤◌, Bool, true, false, ◌||◌, ◌&&◌, ◌==◌, nat_lt, Option, None, Some, option_and_then, List, [], ◌∷◌, All}
 use Rattle.std.specs.declared.cmp.Ordering.{Ordering}
 use Rattle.std.specs.declared.cmp.Ordering.TheVariants.{Less, Equal, Greater}
 use Rattle.tb_types.specs.Counts.{Rose}
@@ -7,7 +7,7 @@ use Rattle.tb_types.specs.Orders.{whom_order}
 use Rattle.tb_types.specs.declared.trouble.Whom.{Whom}
 use Rattle.tb_types.specs.declared.trouble.Whom.TheVariants.{Profile, Lane, Spool, Archive, Console}
 use Rattle.tb_outside.specs.Source.{SourceSeen}
-use Rattle.tb_outside.specs.Spill.{SpillSeen}
+use Rattle.tb_outside.specs.Spill.{Runs, SpillSeen}
 use Rattle.tb_outside.specs.Sink.{SinkSeen}
 use Rattle.tb_outside.specs.declared.lane.Lane as lanes
 
@@ -101,3 +101,28 @@ stands_before role whom other_role other = nat_lt (role_rank role) (role_rank ot
 pub record LeastRose (before after : Objects) (role : Role) (whom : Whom) : Type 0 where
   pub rose : Rose (count_of before role whom) (count_of after role whom)
   pub least : (other_role : Role) (other : Whom) → stands_before other_role other role whom ≡ true → count_of after other_role other ≡ count_of before other_role other
+
+-- all readers tell the same bytes
+abbrev pub TellTheSame : List SourceSeen → Type 0
+TellTheSame readers = (bytes : List ℕ) × All (λ (r : SourceSeen). r.bytes ≡ Some bytes) readers
+
+-- the runs that a spill tells, by its object's name; what is no spill tells that it has none
+abbrev pub spill_runs : List SpillSeen → ℕ → Option Runs
+spill_runs [] k = Some (record { ended = []; begun = None })
+spill_runs (s ∷ spills) zero = s.runs
+spill_runs (s ∷ spills) (suc k) = spill_runs spills k
+
+abbrev pub runs_told : Objects → Whom → Option Runs
+runs_told objects Profile = Some (record { ended = []; begun = None })
+runs_told objects (Lane k) = spill_runs objects.spills k
+runs_told objects Spool = objects.spool.runs
+runs_told objects Archive = Some (record { ended = []; begun = None })
+runs_told objects Console = Some (record { ended = []; begun = None })
+
+-- the spool's runs, where it and all spills tell theirs
+abbrev pub if_told : List SpillSeen → Option Runs → Option Runs
+if_told [] runs = runs
+if_told (s ∷ spills) runs = option_and_then (λ (told : Runs). if_told spills runs) s.runs
+
+abbrev pub all_told : Objects → Option Runs
+all_told objects = if_told objects.spills objects.spool.runs

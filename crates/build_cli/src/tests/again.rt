@@ -18,7 +18,7 @@ struct Objects {
 }
 
 // The extract of a road whose first node stands there twice.
-fn road(alloc: Global) -> Result<Vec<u8>, Memory> {
+pub(super) fn road(alloc: Global) -> Result<Vec<u8>, Memory> {
     let mut extract = Vec::from_slice(alloc, HEADER)?;
     for block in [PLACES, MOVED, ROAD] {
         extract.extend_from_slice(block)?;
@@ -27,11 +27,16 @@ fn road(alloc: Global) -> Result<Vec<u8>, Memory> {
 }
 
 // The objects of a build of the road, of which these calls fail.
-fn objects_of(alloc: Global, reader: &[u64], spool: &[u64]) -> Result<Objects, Memory> {
+fn objects_of(
+    alloc: Global,
+    reader: &[u64],
+    spill: &[u64],
+    spool: &[u64],
+) -> Result<Objects, Memory> {
     let extract = road(alloc)?;
     let lane = Lane {
         reader: reader_of(alloc, &extract, reader)?,
-        spill: MemSpill::new(alloc, Vec::new(alloc))?,
+        spill: MemSpill::new(alloc, Vec::from_slice(alloc, spill)?)?,
     };
     Ok(Objects {
         words: words_for(alloc, "build", "p")?,
@@ -65,8 +70,13 @@ struct Twice {
     console: MemSink,
 }
 
-fn build_twice(alloc: Global, reader: &[u64], spool: &[u64]) -> Result<Twice, Memory> {
-    let mut o = objects_of(alloc, reader, spool)?;
+fn build_twice(
+    alloc: Global,
+    reader: &[u64],
+    spill: &[u64],
+    spool: &[u64],
+) -> Result<Twice, Memory> {
+    let mut o = objects_of(alloc, reader, spill, spool)?;
     let first = run_over(alloc, &mut o);
     let between = o.archive.bytes().len();
     let second = run_over(alloc, &mut o);
@@ -94,13 +104,19 @@ fn the_same_objects_serve_again(rt: HostRuntime) -> Result<(), Fail> {
     let whole = build(alloc, P1, &road(alloc)?, &NONE)?.archive;
     // Each call of the reader.
     for call in 0..17u64 {
-        let ran = build_twice(alloc, &[call], &[])?;
+        let ran = build_twice(alloc, &[call], &[], &[])?;
         let lines = b"source: lane 0\nbuilt: tiles 1,".as_slice();
         assert!(rt; is_mended(&ran, 7, lines, whole.bytes()), "call {call}");
     }
+    // Each call of the lane's spill: a run is begun, written and ended, and then read.
+    for call in 0..4u64 {
+        let ran = build_twice(alloc, &[], &[call], &[])?;
+        let lines = b"spill: lane 0\nbuilt: tiles 1,".as_slice();
+        assert!(rt; is_mended(&ran, 8, lines, whole.bytes()), "call {call}");
+    }
     // Each call of the spool before anything is appended.
     for call in 0..3u64 {
-        let ran = build_twice(alloc, &[], &[call])?;
+        let ran = build_twice(alloc, &[], &[], &[call])?;
         let lines = b"spill: spool\nbuilt: tiles 1,".as_slice();
         assert!(rt; is_mended(&ran, 8, lines, whole.bytes()), "call {call}");
     }

@@ -135,3 +135,29 @@ fn spool_faults_are_told(rt: HostRuntime) -> Result<(), Fail> {
     }
     Ok(())
 }
+
+/// The calls of the lane's spill over one item: a run is begun, written and ended, and then read.
+const SPILL_CALLS: u64 = 4;
+
+#[test]
+fn spill_faults_are_told(rt: HostRuntime) -> Result<(), Fail> {
+    let alloc = rt.alloc();
+    for call in 0..SPILL_CALLS + 1 {
+        let faults = Faults {
+            spill: &[call],
+            ..NONE
+        };
+        let ran = nodes(alloc, "amenity", CAFE, &faults)?;
+        let fails = call < SPILL_CALLS;
+        let line = if fails {
+            b"spill: lane 0\n".as_slice()
+        } else {
+            SUCCESS
+        };
+        assert!(rt; ran.status == if fails { 8 } else { 0 }, "call {call}");
+        assert!(rt; ran.console.bytes() == line, "call {call}");
+        // Nothing is appended before all tiles stand in the spool.
+        assert!(rt; ran.archive.bytes().is_empty() == fails, "call {call}");
+    }
+    Ok(())
+}

@@ -52,8 +52,16 @@ const FRAMES: u64 = 4;
 
 const PIECES: u64 = 5;
 
+// Whether a run ended at the archive's sink, with a part of the extract there.
+fn is_cut(ran: &Ran, whole: &Ran) -> bool {
+    ran.status == 9
+        && ran.archive.bytes().len() < whole.archive.bytes().len()
+        && whole.archive.bytes().starts_with(ran.archive.bytes())
+        && ran.console.bytes() == b"sink: archive\n".as_slice()
+}
+
 #[test]
-fn sinks_of_an_extract_fail(rt: HostRuntime) -> Result<(), Fail> {
+fn the_sink_of_an_extract_fails(rt: HostRuntime) -> Result<(), Fail> {
     let alloc = rt.alloc();
     let whole = generate(alloc, "0", "100", &NONE)?;
     for call in 0..FRAMES {
@@ -62,41 +70,37 @@ fn sinks_of_an_extract_fail(rt: HostRuntime) -> Result<(), Fail> {
             ..NONE
         };
         let ran = generate(alloc, "0", "100", &faults)?;
-        let len = ran.archive.bytes().len();
-        assert!(rt; ran.status == 9 && len < 1295, "frame {call}");
-        assert!(rt; (len == 0) == (call == 0), "frame {call}");
+        assert!(rt; is_cut(&ran, &whole), "frame {call}");
         assert!(rt;
-            whole.archive.bytes().starts_with(ran.archive.bytes()),
-            "frame {call}"
-        );
-        assert!(rt;
-            ran.console.bytes() == b"sink: archive\n".as_slice(),
+            ran.archive.bytes().is_empty() == (call == 0),
             "frame {call}"
         );
     }
+    let room = Faults { room: 500, ..NONE };
+    let ran = generate(alloc, "0", "100", &room)?;
+    assert!(rt; is_cut(&ran, &whole) && ran.archive.bytes().len() == 500);
+    Ok(())
+}
+
+// Whether a run ended at the console, with the extract written and a part of the line there.
+fn is_silent(ran: &Ran, whole: &Ran) -> bool {
+    ran.status == 9
+        && ran.archive.bytes() == whole.archive.bytes()
+        && ran.console.bytes().len() < whole.console.bytes().len()
+        && whole.console.bytes().starts_with(ran.console.bytes())
+}
+
+#[test]
+fn the_line_of_an_extract_fails(rt: HostRuntime) -> Result<(), Fail> {
+    let alloc = rt.alloc();
+    let whole = generate(alloc, "0", "100", &NONE)?;
     for call in 0..PIECES {
         let faults = Faults {
             console: &[call],
             ..NONE
         };
         let ran = generate(alloc, "0", "100", &faults)?;
-        assert!(rt; ran.status == 9, "piece {call}");
-        assert!(rt;
-            ran.archive.bytes() == whole.archive.bytes(),
-            "piece {call}"
-        );
-        assert!(rt;
-            whole.console.bytes().starts_with(ran.console.bytes()),
-            "piece {call}"
-        );
-        assert!(rt;
-            ran.console.bytes().len() < whole.console.bytes().len(),
-            "piece {call}"
-        );
+        assert!(rt; is_silent(&ran, &whole), "piece {call}");
     }
-    let room = Faults { room: 500, ..NONE };
-    let ran = generate(alloc, "0", "100", &room)?;
-    assert!(rt; ran.status == 9 && ran.archive.bytes().len() == 500);
-    assert!(rt; whole.archive.bytes().starts_with(ran.archive.bytes()));
     Ok(())
 }

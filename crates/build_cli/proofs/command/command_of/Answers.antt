@@ -8,5 +8,5 @@ returns-in-len1-clause-command c = sym (one-word (λ word. string_bytes word) c.
 pub returns-in-len3-clause-command : goal.returns-in-len3-clause-command
 returns-in-len3-clause-command c = sym (three-words (λ word. string_bytes word) c.args.words.now c.in-len3.len_at_least c.in-len3.len_below)
 
-pub returns-in-len6-up-clause-command : goal.returns-in-len6-up-clause-command
-returns-in-len6-up-clause-command c = sym (many-words (λ word. string_bytes word) c.args.words.now c.in-len6-up.len_at_least)
+pub returns-in-len7-up-clause-command : goal.returns-in-len7-up-clause-command
+returns-in-len7-up-clause-command c = sym (many-words (λ word. string_bytes word) c.args.words.now c.in-len7-up.len_at_least)

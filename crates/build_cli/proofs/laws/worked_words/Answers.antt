@@ -26,4 +26,14 @@ returns c = record {
   key = refl;
   no_extract = refl;
   option_for_extract = refl;
+  usual = refl;
+  least_budget = refl;
+  most_budget = refl;
+  third_budget = refl;
+  last_budget = refl;
+  small_budget = refl;
+  large_budget = refl;
+  twice = refl;
+  no_number = refl;
+  of_nodes = refl;
 }

@@ -1,6 +1,8 @@
-use Rattle.build_one.proofs.Passes.{are-placed}
 use Rattle.build_one.proofs.Passing.{Passing}
+use Rattle.build_one.proofs.Passes.{are-put, nodes-put, nodes-made}
 use Rattle.build_one.proofs.nodes.nodes.Given as goal
 
 abbrev pub invariant-loop-block : goal.invariant-loop-block
-invariant-loop-block g l = Passing (are-placed l.profile l.needed) l.blocks (g.R.Source.seen l.fn.reader) (g.R.Source.seen l.reader) l.block-index (l.entries.items, l.items.items)
+invariant-loop-block g l =
+    Passing (are-put l.profile (nodes-put l.needed) (nodes-made l.profile) (g.S.Spill.seen l.fn.lane.spill) l.fn.buffer) l.blocks (g.R.Source.seen l.fn.lane.reader) (g.R.Source.seen l.lane.reader) l.block-index
+    (l.entries.items, g.S.Spill.seen l.lane.spill, l.buffer)

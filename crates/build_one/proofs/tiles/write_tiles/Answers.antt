@@ -1,45 +1,37 @@
-use Rattle.std.proofs.Common.{List, Ok, Err, All, length, sym, subst, ◌∙◌, arith}
-use Rattle.std.proofs.lemmas.List.Sorted.{All-permutation, length_permutation}
-use Rattle.std.specs.List.Sorted.{IsSortedBy, IsPermutation}
-use Rattle.profile_rules.specs.Fields.{layers_of}
-use Rattle.mvt_codec.specs.declared.item.RunItem.{RunItem}
-use Rattle.tile_model.specs.Keys.{item_less}
-use Rattle.tile_model.specs.Items.{IsSoundItem}
-use Rattle.build_one.specs.Writing.{TilesAnswers}
-use Rattle.build_one.proofs.Writes.{left-in-place, sound-names, map-written, map-not-written}
+use Rattle.std.proofs.Common.{length, sym, ap, subst, ◌∙◌}
+use Rattle.run_merge.specs.Answers.{named_runs}
+use Rattle.run_merge.specs.Cursors.{AreTold}
+use Rattle.run_merge.specs.Objects.{objects_of}
+use Rattle.run_merge.specs.Steps.{AreReadable}
+use Rattle.build_one.proofs.Mapping.{names-count, short-names, map-tiles, map-stopped}
 use Rattle.build_one.proofs.tiles.write_tiles.Goals as goal
 
-pub put_tiles-requires-clause-sound : goal.put_tiles-requires-clause-sound
-put_tiles-requires-clause-sound g c =
-    let same : IsPermutation c.args.items.items c.sort_items.new.items = subst (λ (xs : List RunItem). IsPermutation xs c.sort_items.new.items) c.deref_mut.ensures.value c.sort_items.ensures.same in
-    let len = c.args.items.ok in
-    let view = left-in-place c.args.items.items c.sort_items.new.items c.args.items.len (omega (arith, len)) (length_permutation _ _ same) in
-    subst (All (IsSoundItem (length c.deref.result.now))) (sym view)
-    (sound-names c.args.profile.now c.deref.result.now c.sort_items.new.items (c.deref.ensures.value ∙ c.in_ok-names.ensures {u = tt})
-    (All-permutation (IsSoundItem (length (layers_of c.args.profile.now))) c.args.items.items c.sort_items.new.items same c.requires.sound))
+pub start-requires-clause-told : goal.start-requires-clause-told
+start-requires-clause-told g c =
+    let o = objects_of g.S.Spill.seen c.args.lanes.now c.args.spool.now in
+    subst (λ l. AreReadable o l (named_runs c.args.runs.now)) (sym (ap length (c.as_slice-names.ensures.value ∙ c.in_ok-names.ensures {u = tt}) ∙ names-count c.args.profile.now)) c.requires.told
 
-pub put_tiles-requires-clause-rises : goal.put_tiles-requires-clause-rises
-put_tiles-requires-clause-rises g c =
-    let same : IsPermutation c.args.items.items c.sort_items.new.items = subst (λ (xs : List RunItem). IsPermutation xs c.sort_items.new.items) c.deref_mut.ensures.value c.sort_items.ensures.same in
-    let len = c.args.items.ok in
-    let view = left-in-place c.args.items.items c.sort_items.new.items c.args.items.len (omega (arith, len)) (length_permutation _ _ same) in
-    subst (IsSortedBy item_less) (sym view) c.sort_items.ensures.sorted
+pub put_tiles-requires-clause-names : goal.put_tiles-requires-clause-names
+put_tiles-requires-clause-names g c = short-names c.args.profile.now c.as_slice-names.result.now (c.as_slice-names.ensures.value ∙ c.in_ok-names.ensures {u = tt}) c.requires.sound
 
-pub returns-in-Ok : goal.returns-in-Ok
-returns-in-Ok g c =
-    let same : IsPermutation c.args.items.items c.sort_items.new.items = subst (λ (xs : List RunItem). IsPermutation xs c.sort_items.new.items) c.deref_mut.ensures.value c.sort_items.ensures.same in
-    let len = c.args.items.ok in
-    let view = left-in-place c.args.items.items c.sort_items.new.items c.args.items.len (omega (arith, len)) (length_permutation _ _ same) in
+pub put_tiles-requires-clause-told : goal.put_tiles-requires-clause-told
+put_tiles-requires-clause-told g c =
+    let started = c.in-Ok.ensures.answer in
+    subst (λ l. AreTold (objects_of g.S.Spill.seen c.start.new.lanes c.start.new.spool) l c.in-Ok.merge.readers) (sym started.layers_are) started.told_are
+
+pub returns-in-Ok-put_tiles : goal.returns-in-Ok-put_tiles
+returns-in-Ok-put_tiles g c =
+    let seen = g.S.Spill.seen in
     let writer = c.in_ok-writer.ensures {u = tt} in
-    map-written c.args.profile.now c.args.meta c.args.items.items c.sort_items.new.items c.deref.result.now c.in_ok-writer.writer c.put_tiles.new.writer (g.S.Spill.seen c.args.spool.now) (g.S.Spill.seen c.put_tiles.new.spool)
-    (c.deref.ensures.value ∙ c.in_ok-names.ensures {u = tt}) same c.sort_items.ensures.sorted writer.meta writer.none
-    (subst (λ (xs : List RunItem). TilesAnswers c.deref.result.now xs c.in_ok-writer.writer c.put_tiles.new.writer (g.S.Spill.seen c.args.spool.now) (g.S.Spill.seen c.put_tiles.new.spool) (Ok tt)) view (c.in-Ok.ensures {u = tt}))
+    let started = c.in-Ok.ensures.answer in
+    map-tiles c.args.part (objects_of seen c.args.lanes.now c.args.spool.now) (objects_of seen c.start.new.lanes c.start.new.spool) (objects_of seen c.put_tiles.new.lanes c.put_tiles.new.spool) c.in-Ok.ensures.keeps started.counts
+    c.args.profile.now c.args.meta c.as_slice-names.result.now c.args.runs.now (length c.as_slice-names.result.now) c.in-Ok.merge c.in_ok-writer.writer c.put_tiles.new.writer (c.as_slice-names.ensures.value ∙ c.in_ok-names.ensures {u = tt}) started
+    (c.in-Ok-put_tiles.ensures {u = tt}) writer.meta writer.none
 
 pub returns : goal.returns
 returns g c =
-    let same : IsPermutation c.args.items.items c.sort_items.new.items = subst (λ (xs : List RunItem). IsPermutation xs c.sort_items.new.items) c.deref_mut.ensures.value c.sort_items.ensures.same in
-    let len = c.args.items.ok in
-    let view = left-in-place c.args.items.items c.sort_items.new.items c.args.items.len (omega (arith, len)) (length_permutation _ _ same) in
-    map-not-written c.args.profile.now c.args.meta c.args.items.items c.sort_items.new.items c.deref.result.now c.in_ok-writer.writer c.put_tiles.new.writer (g.S.Spill.seen c.args.spool.now) (g.S.Spill.seen c.put_tiles.new.spool)
-    (c.deref.ensures.value ∙ c.in_ok-names.ensures {u = tt}) same c.sort_items.ensures.sorted c.in-Err.stop
-    (subst (λ (xs : List RunItem). TilesAnswers c.deref.result.now xs c.in_ok-writer.writer c.put_tiles.new.writer (g.S.Spill.seen c.args.spool.now) (g.S.Spill.seen c.put_tiles.new.spool) (Err c.in-Err.stop)) view (c.in-Err.ensures {u = tt}))
+    let seen = g.S.Spill.seen in
+    let started = c.in-Ok.ensures.answer in
+    map-stopped c.args.part (objects_of seen c.args.lanes.now c.args.spool.now) (objects_of seen c.start.new.lanes c.start.new.spool) (objects_of seen c.put_tiles.new.lanes c.put_tiles.new.spool) c.in-Ok.ensures.keeps started.counts
+    c.args.profile.now c.args.meta c.as_slice-names.result.now c.args.runs.now (length c.as_slice-names.result.now) c.in-Ok.merge c.in_ok-writer.writer c.put_tiles.new.writer (c.as_slice-names.ensures.value ∙ c.in_ok-names.ensures {u = tt}) started
+    c.in-Err-put_tiles.e (c.in-Err-put_tiles.ensures {u = tt})

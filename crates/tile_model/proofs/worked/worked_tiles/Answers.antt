@@ -1,4 +1,4 @@
-use Rattle.tile_model.proofs.WorkedCases.{points, tiles, ways, relations}
+use Rattle.tile_model.proofs.WorkedCases.{points, tiles, ways, relations, needs}
 use Rattle.tile_model.proofs.worked.worked_tiles.Goals as goal
 
 pub returns-clause-points : goal.returns-clause-points
@@ -12,3 +12,6 @@ returns-clause-ways c = ways
 
 pub returns-clause-relations : goal.returns-clause-relations
 returns-clause-relations c = relations
+
+pub returns-clause-needs : goal.returns-clause-needs
+returns-clause-needs c = needs

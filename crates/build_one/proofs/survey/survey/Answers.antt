@@ -1,6 +1,6 @@
 use Rattle.std.proofs.Common.{rules}
 use Rattle.build_one.proofs.Surveying.{surveying-start, surveying-next, whole-found, within-block}
-use Rattle.build_one.proofs.survey.take_blocks.Goals as goal
+use Rattle.build_one.proofs.survey.survey.Goals as goal
 
 pub loop-block-init : goal.loop-block-init
 loop-block-init g c =

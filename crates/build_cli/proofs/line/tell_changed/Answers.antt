@@ -1,0 +1,12 @@
+use Rattle.std.proofs.Common.{◌∙◌, refl, subst}
+use Rattle.tb_outside.specs.Sink.{SinkAnswers}
+use Rattle.build_cli.specs.Line.{changed_line}
+use Rattle.build_cli.proofs.Appending.{also}
+use Rattle.build_cli.proofs.line.tell_changed.Goals as goal
+
+pub returns : goal.returns
+unfolding changed_line
+returns g c =
+    subst (λ text. SinkAnswers (g.K.Sink.seen c.args.console.now) (g.K.Sink.seen c.append_all.new.sink) text c.append_all.result)
+    (also _ _ _ _ c.as_slice.ensures (also _ _ _ _ c.pass_text.ensures (also _ _ _ _ c.as_slice-2.ensures (also _ _ _ _ (c.as_bytes.ensures.value ∙ c.format.ensures.text) (also _ _ _ _ c.as_slice-3.ensures refl)))))
+    c.append_all.ensures
