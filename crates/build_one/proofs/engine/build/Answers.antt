@@ -73,7 +73,7 @@ returns-in-Err-gather-clause-answers g c =
     let s1 = g.S.Spill.seen c.gather.new.lane.spill in
     let stop = c.in-Err-gather.stop in
     let a = subst (λ part. GatherAnswers parts part c.run_limit.result found r0 r3 s0 s1 (Err stop)) c.batch_part-part.ensures
-      (gather-from parts c.batch_part-part.result c.run_limit.result found r0 r2 r3 s0 s1 (Err stop) (survey.bytes ∙ scan.bytes) (survey.counts ∙ scan.counts) (c.in-Err-gather.ensures {u = tt})) in
+    (gather-from parts c.batch_part-part.result c.run_limit.result found r0 r2 r3 s0 s1 (Err stop) (survey.bytes ∙ scan.bytes) (survey.counts ∙ scan.counts) (c.in-Err-gather.ensures {u = tt})) in
     gather-stops c.args.from c.args.budget p p1 r0 s0 o k parts q r3 a.bytes blocks f found surveys c.run_limit.result s1 stop a
 
 pub write_map-requires-clause-runs : goal.write_map-requires-clause-runs
@@ -97,7 +97,7 @@ write_map-requires-clause-runs g c =
     let s1 = g.S.Spill.seen c.gather.new.lane.spill in
     let runs = c.in-Ok-gather.runs in
     let a = subst (λ part. GatherAnswers parts part c.run_limit.result found r0 r3 s0 s1 (Ok runs)) c.batch_part-part.ensures
-      (gather-from parts c.batch_part-part.result c.run_limit.result found r0 r2 r3 s0 s1 (Ok runs) (survey.bytes ∙ scan.bytes) (survey.counts ∙ scan.counts) (c.in-Ok-gather.ensures {u = tt})) in
+    (gather-from parts c.batch_part-part.result c.run_limit.result found r0 r2 r3 s0 s1 (Ok runs) (survey.bytes ∙ scan.bytes) (survey.counts ∙ scan.counts) (c.in-Ok-gather.ensures {u = tt})) in
     readable c.args.from c.args.budget p p1 r0 s0 o k parts q r3 a.bytes blocks f found surveys c.run_limit.result s1 c.gather.new.lane.reader runs c.unwrap_or-bounds.result (subst IsSound c.profile.view_is c.profile.invariant.sound) c.unwrap_or-bounds.ensures a
 
 pub returns-clause-answers : goal.returns-clause-answers
@@ -121,7 +121,7 @@ returns-clause-answers g c =
     let s1 = g.S.Spill.seen c.gather.new.lane.spill in
     let runs = c.in-Ok-gather.runs in
     let a = subst (λ part. GatherAnswers parts part c.run_limit.result found r0 r3 s0 s1 (Ok runs)) c.batch_part-part.ensures
-      (gather-from parts c.batch_part-part.result c.run_limit.result found r0 r2 r3 s0 s1 (Ok runs) (survey.bytes ∙ scan.bytes) (survey.counts ∙ scan.counts) (c.in-Ok-gather.ensures {u = tt})) in
+    (gather-from parts c.batch_part-part.result c.run_limit.result found r0 r2 r3 s0 s1 (Ok runs) (survey.bytes ∙ scan.bytes) (survey.counts ∙ scan.counts) (c.in-Ok-gather.ensures {u = tt})) in
     let written = c.write_map.ensures.written in
     subst (λ r. BuildAnswers c.args.from c.args.budget (Causes.before p p1 r0 r3 s0 s1 o o k k) (Causes.after p p1 r0 r s0 (g.S.Spill.seen c.write_map.new.lane.spill) o (g.S.Spill.seen c.write_map.new.spool) k (g.K.Sink.seen c.write_map.new.archive)) c.write_map.result)
     (ap g.R.Source.seen (sym c.write_map.ensures.reader))
