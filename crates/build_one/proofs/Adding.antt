@@ -7,7 +7,6 @@ use Rattle.tb_outside.specs.declared.spill.SpillErr.TheVariants as spill_errors
 use Rattle.tb_types.specs.declared.trouble.Whom.TheVariants as whom
 use Rattle.mvt_codec.specs.declared.item.RunItem.{RunItem}
 use Rattle.mvt_codec.specs.Groups.{text_of_items}
-use Rattle.pmtiles_dirs.specs.Contents.{Tile}
 use Rattle.pmtiles_file.specs.Writing.{WriterSeen, AddAnswers}
 use Rattle.run_merge.specs.declared.merge_err.MergeErr.{MergeErr}
 use Rattle.run_merge.specs.declared.merge_err.MergeErr.TheVariants as errors

@@ -1,5 +1,5 @@
 -- From what the calls of a build answer to what the lemmas on the whole build take.
-use Rattle.std.proofs.Common.{◌≡◌, ℕ, ◌≤◌, Option, None, Some, IfSome, Result, Ok, Err, List, sym, ap, subst, ◌∙◌}
+use Rattle.std.proofs.Common.{◌≡◌, ℕ, ◌≤◌, Option, IfSome, Result, Ok, List, sym, subst, ◌∙◌}
 use Rattle.tb_outside.specs.Source.{SourceSeen}
 use Rattle.tb_outside.specs.Spill.{SpillSeen}
 use Rattle.tb_outside.specs.declared.spill.RunAt.{RunAt}

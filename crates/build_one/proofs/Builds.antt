@@ -1,6 +1,5 @@
 -- What a build answers by each of its ways, on one lane.
-use Rattle.std.proofs.Common.{◌≡◌, ℕ, ◌≤◌, ◌<◌, nat_lt, true, false, cond, Option, None, Some, IfSome, Result, Ok, Err, List, [], ◌∷◌, length, unwrap_or, refl, sym, ap, subst, ◌∙◌, arith, inl}
-use Rattle.std.specs.Prelude.{⊤}
+use Rattle.std.proofs.Common.{◌≡◌, ℕ, ◌≤◌, ◌<◌, true, cond, Option, None, Some, IfSome, Result, Ok, Err, List, [], ◌∷◌, length, unwrap_or, refl, sym, ap, subst, ◌∙◌, arith, inl}
 use Rattle.std.specs.Option.{option_map, option_and_then}
 use Rattle.std.proofs.lemmas.Bool.{lt-ltb, le-ltb}
 use Rattle.tb_types.specs.Counts.{Counted, Rose}
@@ -16,7 +15,6 @@ use Rattle.tb_outside.specs.Spill.{SpillSeen, Runs}
 use Rattle.tb_outside.specs.Sink.{SinkSeen}
 use Rattle.tb_outside.specs.declared.spill.RunAt.{RunAt}
 use Rattle.pbf_blobs.specs.declared.block.BlockAt.{BlockAt}
-use Rattle.pbf_blobs.specs.declared.block.Index.{Index}
 use Rattle.pbf_blobs.specs.declared.stop.ScanStop.{ScanStop}
 use Rattle.pbf_blobs.specs.declared.stop.ScanStop.TheVariants as scan_stops
 use Rattle.pbf_blobs.specs.Answers.{ScanAnswers}
@@ -24,7 +22,6 @@ use Rattle.pbf_blobs.specs.Frames.{frames_of}
 use Rattle.profile_rules.specs.declared.parts.Parts.{Parts}
 use Rattle.profile_rules.specs.Faults.{Fault}
 use Rattle.profile_rules.specs.Sound.{IsSound}
-use Rattle.mvt_codec.specs.declared.item.RunItem.{RunItem}
 use Rattle.pmtiles_dirs.specs.declared.totals.Totals.{Totals}
 use Rattle.pmtiles_file.specs.Spool.{KeepsEnded}
 use Rattle.feature_runs.specs.Writing as buffers
@@ -51,8 +48,8 @@ use Rattle.std.proofs.lemmas.List.Elements.{recursion_from_All}
 use Rattle.tile_model.specs.Stops.{stage_of}
 use Rattle.build_one.specs.declared.found.Found.{Found}
 use Rattle.build_one.specs.Answers.{BuildAnswers, IsDue, IsJudged, HasCause, Writes, ReadsBack, reached}
-use Rattle.build_one.specs.Made.{GatherAnswers, GatherCounts, Gathers, IsDueBy, IsKnown, MapCounts, MapWritten, runs_named}
-use Rattle.build_one.specs.Passes.{IsGathered, IsOver, needs_in, OfSurveyed, Ran}
+use Rattle.build_one.specs.Made.{GatherAnswers, IsDueBy, IsKnown, MapCounts, MapWritten, runs_named}
+use Rattle.build_one.specs.Passes.{IsGathered, IsOver, needs_in, OfSurveyed}
 use Rattle.build_one.specs.Stages.{stop_of_survey}
 use Rattle.build_one.specs.Found.{HasSurveyed}
 use Rattle.build_one.specs.Survey.{IsApart, Surveys, survey_failed}

@@ -8,7 +8,7 @@ use Rattle.tile_model.specs.declared.stop.Stop.{Stop}
 use Rattle.tile_model.specs.declared.stop.Stop.TheVariants as stops
 use Rattle.pmtiles_dirs.specs.declared.totals.Totals.{Totals}
 use Rattle.tb_outside.specs.Spill.{Runs, SpillSeen}
-use Rattle.tile_model.specs.Objects.{Objects, NoneRose, reading, spilling, writing, TellTheSame, runs_told, spill_runs, if_told, all_told}
+use Rattle.tile_model.specs.Objects.{Objects, NoneRose, reading, spilling, writing, runs_told, spill_runs, if_told, all_told}
 use Rattle.tile_model.specs.Due.{Due, due_in}
 use Rattle.build_one.specs.Answers.{IsDue, IfTold, HasCause, Fits, BuildAnswers}
 

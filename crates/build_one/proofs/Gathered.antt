@@ -1,13 +1,11 @@
 -- What the passes behind the survey answer together.
-use Rattle.std.proofs.Common.{◌≡◌, ℕ, ◌≤◌, ◌<◌, Option, None, Some, IfSome, Result, Ok, Err, OnOk, List, [], ◌∷◌, ◌++◌, flat_map, map, refl, sym, ap, subst, ◌∙◌, arith, inl, inr}
+use Rattle.std.proofs.Common.{◌≡◌, ℕ, ◌≤◌, ◌<◌, Option, None, Some, IfSome, Result, Ok, Err, OnOk, List, [], ◌++◌, flat_map, map, refl, sym, ap, subst, ◌∙◌, arith, inl, inr}
 use Rattle.std.specs.Prelude.{⊤}
 use Rattle.std.specs.List.Sorted.{IsPermutation}
-use Rattle.tb_types.specs.Counts.{Counted, Rose}
+use Rattle.tb_types.specs.Counts.{Counted}
 use Rattle.tb_types.specs.declared.damage.Damage.{Damage}
-use Rattle.tb_types.specs.declared.trouble.Stage.TheVariants as stages
-use Rattle.tb_types.specs.declared.trouble.Whom.TheVariants as whom
 use Rattle.tb_outside.specs.Source.{SourceSeen}
-use Rattle.tb_outside.specs.Spill.{Runs, SpillSeen}
+use Rattle.tb_outside.specs.Spill.{SpillSeen}
 use Rattle.tb_outside.specs.declared.spill.RunAt.{RunAt}
 use Rattle.tb_outside.specs.declared.spill.SpillErr.{SpillErr}
 use Rattle.tb_outside.specs.declared.spill.SpillErr.TheVariants as spill_errors
@@ -23,13 +21,10 @@ use Rattle.feature_runs.specs.Entry.{Buffered, entry_of}
 use Rattle.feature_runs.specs.Added.{WereAdded, AreThere}
 use Rattle.feature_runs.specs.Writing.{Frames}
 use Rattle.tile_model.specs.Contents.{Content, contents_at}
-use Rattle.tile_model.specs.Extract.{features_of}
-use Rattle.tile_model.specs.Map.{blocks_in}
 use Rattle.tile_model.specs.Needs.{largest}
 use Rattle.tile_model.specs.Points.{points_of}
 use Rattle.tile_model.specs.Tiles.{emitted_items}
 use Rattle.tile_model.specs.Ways.{ways_of}
-use Rattle.tile_model.specs.declared.stop.Stop.{Stop}
 use Rattle.tile_model.specs.declared.stop.Stop.TheVariants as stops
 use Rattle.pass_shapes.specs.Kept.{kept_features, needs_of}
 use Rattle.pass_shapes.specs.Stores.{locate_in, shape_in}
@@ -44,11 +39,11 @@ use Rattle.build_one.specs.declared.stop.PassStop.TheVariants as pass_stops
 use Rattle.build_one.specs.declared.stop.RelationStop.{RelationStop}
 use Rattle.build_one.specs.declared.stop.RelationStop.TheVariants as relation_stops
 use Rattle.build_one.specs.Found.{HasSurveyed}
-use Rattle.build_one.specs.Made.{GatherCounts, Gathers, GatherAnswers}
-use Rattle.build_one.specs.Passes.{as_content, Adds, AreMembers, AreNeeded, ArePlaced, AreDrawn, IsGathered, IsOver, needs_in, OfSurveyed, Ran, Reads, RelationAnswers, as_added}
+use Rattle.build_one.specs.Made.{Gathers, GatherAnswers}
+use Rattle.build_one.specs.Passes.{as_content, Adds, AreMembers, AreNeeded, ArePlaced, AreDrawn, IsGathered, IsOver, needs_in, OfSurveyed, Ran, Reads, as_added}
 use Rattle.build_one.specs.Stages.{stop_of_pass, stop_of_relations}
 use Rattle.build_one.specs.Survey.{IsApart, NoSpill, source_failed, as_spilled, pass_stop_of}
-use Rattle.build_one.proofs.Gathering.{gathered-needs, gathered-items, damaged-nodes, damaged-ways}
+use Rattle.build_one.proofs.Gathering.{gathered-needs, gathered-items}
 
 -- ---- counts
 

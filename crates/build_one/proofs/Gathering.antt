@@ -1,6 +1,5 @@
 -- What the passes gather, one after another, are the items of the features of the extract.
-use Rattle.std.proofs.Common.{◌≡◌, ℕ, Bool, true, false, cond, Option, None, Some, IfSome, IfOk, Result, Ok, Err, List, [], ◌∷◌, ◌++◌, filter, filter_map, flat_map, map, length, true≢false, arith, refl, sym, ap, subst, ◌∙◌}
-use Rattle.std.specs.List.Sorted.{IsPermutation}
+use Rattle.std.proofs.Common.{◌≡◌, ℕ, Bool, true, false, cond, Option, None, Some, IfSome, Ok, Err, List, [], ◌∷◌, ◌++◌, filter, filter_map, flat_map, map, length, true≢false, arith, refl, sym, ap, subst, ◌∙◌}
 use Rattle.std.proofs.lemmas.Bool.{lt-ltb}
 use Rattle.std.proofs.lemmas.Grind.{flat_map-append}
 use Rattle.tb_types.specs.declared.damage.Damage.{Damage}
@@ -23,7 +22,6 @@ use Rattle.member_sets.specs.Ids.{entries_of}
 use Rattle.member_sets.specs.declared.unit.Unit as units
 use Rattle.node_store.specs.declared.located.Located.{Located}
 use Rattle.node_store.specs.Order.{located_join, shaped_join}
-use Rattle.mvt_codec.specs.declared.item.RunItem.{RunItem}
 use Rattle.tile_model.specs.Contents.{Content, header, elements, unread, contents_at}
 use Rattle.tile_model.specs.Extract.{all_nodes, all_ways, all_refs, features_of, is_kept, is_some_list, location_of, shape_of, needed_refs}
 use Rattle.tile_model.specs.Map.{block_in, blocks_in}

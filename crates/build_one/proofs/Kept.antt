@@ -1,5 +1,5 @@
 -- Ended runs that stay, whatever comes behind them.
-use Rattle.std.proofs.Common.{◌≡◌, ◌++◌, ◌∷◌, [], Option, None, Some, List, ℕ, refl, sym, ap, subst, ◌∙◌, append_assoc}
+use Rattle.std.proofs.Common.{◌≡◌, ◌++◌, [], Option, None, Some, List, ℕ, refl, sym, ap, subst, ◌∙◌, append_assoc}
 use Rattle.std.proofs.lemmas.List.{append-nil}
 use Rattle.tb_outside.specs.Spill.{Runs}
 use Rattle.feature_runs.specs.Writing as buffers

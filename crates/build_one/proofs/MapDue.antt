@@ -3,7 +3,6 @@ use Rattle.std.proofs.Common.{◌≡◌, ℕ, zero, suc, ◌≤◌, ◌<◌, ◌
 use Rattle.tb_types.specs.declared.location.Bounds.{Bounds}
 use Rattle.tb_types.specs.declared.trouble.Stage.TheVariants as stages
 use Rattle.tb_types.specs.declared.trouble.Whom.{Whom}
-use Rattle.tb_types.specs.declared.trouble.Whom.TheVariants as whom
 use Rattle.tb_types.specs.Counts.{Rose}
 use Rattle.tb_outside.specs.Spill.{SpillSeen, Runs}
 use Rattle.tb_outside.specs.Sink.{SinkSeen, with_more, GrowsByPrefix}
@@ -37,7 +36,7 @@ use Rattle.tile_model.specs.Objects.{if_told}
 use Rattle.build_one.specs.Answers.{OnBuilt, IfTold, IsDue, MayBuild}
 use Rattle.build_one.specs.Made.{IsDueBy, IsKnown, MapWritten, runs_named}
 use Rattle.build_one.specs.Stages.{stop_of_tiles, stop_of_archive}
-use Rattle.build_one.specs.Writing.{Ends, Stays, MapAnswers}
+use Rattle.build_one.specs.Writing.{Stays, MapAnswers}
 use Rattle.build_one.proofs.Backs.{few-built}
 use Rattle.build_one.proofs.Kept.{kept-self, kept-both}
 

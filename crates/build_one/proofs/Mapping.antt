@@ -1,10 +1,10 @@
 -- The tiles of runs: a merge is begun, and its groups are written.
-use Rattle.std.proofs.Common.{◌≡◌, ℕ, ◌≤◌, Option, None, Some, Result, Ok, Err, List, [], ◌∷◌, ◌++◌, length, map, refl, sym, ap, subst, ◌∙◌}
+use Rattle.std.proofs.Common.{◌≡◌, ℕ, ◌≤◌, Option, None, Some, Result, Ok, Err, List, [], ◌∷◌, length, map, refl, sym, ap, subst, ◌∙◌}
 use Rattle.std.specs.Prelude.{⊤}
 use Rattle.std.specs.List.{AllByRecursion}
 use Rattle.std.proofs.lemmas.List.{length-map}
 use Rattle.std.proofs.lemmas.List.Elements.{All-from_recursion, recursion_from_All}
-use Rattle.tb_outside.specs.Spill.{Runs, SpillSeen}
+use Rattle.tb_outside.specs.Spill.{Runs}
 use Rattle.tb_outside.specs.declared.spill.RunAt.{RunAt}
 use Rattle.profile_rules.specs.declared.parts.LayerInfo.{LayerInfo}
 use Rattle.profile_rules.specs.declared.parts.Parts.{Parts}
@@ -12,12 +12,10 @@ use Rattle.profile_rules.specs.Fields.{layers_of}
 use Rattle.profile_rules.specs.Sound.{IsSound, IsSoundLayer}
 use Rattle.mvt_codec.specs.declared.item.RunItem.{RunItem}
 use Rattle.pmtiles_dirs.specs.declared.meta.Meta.{Meta}
-use Rattle.pmtiles_dirs.specs.Contents.{Tile}
 use Rattle.pmtiles_file.specs.Writing.{WriterSeen, Wrote}
 use Rattle.feature_runs.specs.Writing as buffers
 use Rattle.run_merge.specs.declared.merge_err.MergeErr.{MergeErr}
 use Rattle.run_merge.specs.declared.merge_err.MergeErr.TheVariants as errors
-use Rattle.run_merge.specs.declared.named_run.NamedRun.{NamedRun}
 use Rattle.run_merge.specs.Answers.{Merging, Starts, named_runs}
 use Rattle.run_merge.specs.Cursors.{cursors_of, left_groups}
 use Rattle.run_merge.specs.Objects.{Objects, AllTell, Keeps, NoneRose, spill_of}

@@ -1,5 +1,5 @@
 -- The map of one lane's runs: the lane stays one, with the same reader.
-use Rattle.std.proofs.Common.{◌≡◌, ℕ, Option, Result, Ok, Err, List, [], ◌∷◌, map, slice_index_or, refl, sym, ap, subst}
+use Rattle.std.proofs.Common.{◌≡◌, ℕ, Option, Result, Ok, Err, List, [], ◌∷◌, map, slice_index_or, refl, ap, subst}
 use Rattle.tb_types.specs.declared.location.Bounds.{Bounds}
 use Rattle.tb_outside.specs.declared.lane.Lane.{Lane}
 use Rattle.tb_outside.specs.declared.spill.RunAt.{RunAt}

@@ -1,11 +1,11 @@
 -- The runs that the passes wrote are such as a merge may begin with, and their groups are the rows of the tiles.
-use Rattle.std.proofs.Common.{◌≡◌, ℕ, ◌+◌, ◌<◌, ◌≤◌, nat_lt, false, Bool, Option, None, Some, IfSome, IsSome, List, [], ◌∷◌, ◌++◌, length, drop, get_or, map, filter_map, flat_map, option_map, All, refl, sym, ap, subst, ◌∙◌, arith, true≢false}
+use Rattle.std.proofs.Common.{◌≡◌, ℕ, ◌+◌, ◌<◌, ◌≤◌, nat_lt, Option, None, Some, IfSome, IsSome, List, [], ◌∷◌, ◌++◌, length, get_or, map, filter_map, option_map, All, refl, sym, ap, subst, ◌∙◌, arith, true≢false}
 use Rattle.std.specs.List.{AllByRecursion, cons_option}
-use Rattle.std.specs.List.Sorted.{IsSortedBy, IsPermutation}
+use Rattle.std.specs.List.Sorted.{IsPermutation}
 use Rattle.std.proofs.lemmas.List.{append-nil, length-map, get_or-map}
 use Rattle.std.proofs.lemmas.Bool.{lt-ltb, le-ltb}
 use Rattle.std.proofs.lemmas.List.Elements.{All-from_recursion, recursion_from_All, filter_map-append}
-use Rattle.std.proofs.lemmas.List.Sorted.{All-permutation, IsPermutation-sym, IsPermutation-trans, IsPermutation-refl}
+use Rattle.std.proofs.lemmas.List.Sorted.{All-permutation, IsPermutation-trans, IsPermutation-refl}
 use Rattle.tb_outside.specs.Spill.{Runs, SpillSeen}
 use Rattle.tb_outside.specs.declared.spill.RunAt.{RunAt}
 use Rattle.sorted_lists.specs.Sorting.{by_rank, sorted_by, KeysDiffer}
@@ -43,7 +43,7 @@ use Rattle.feature_runs.proofs.ItemWhole.{item_again}
 use Rattle.run_merge.specs.Answers.{named, named_runs}
 use Rattle.run_merge.specs.Items.{IsItemOf, AreItems, AreInOrder, item_rank, item_tile, items_in, groups_in}
 use Rattle.run_merge.specs.Cursors.{IsRun, left_if}
-use Rattle.run_merge.specs.Objects.{Objects, AllTell}
+use Rattle.run_merge.specs.Objects.{Objects}
 use Rattle.run_merge.specs.Steps.{AreReadable, IsReadable, items_of}
 use Rattle.run_merge.specs.declared.named_run.NamedRun.{NamedRun}
 use Rattle.run_merge.specs.declared.named_run.Store.TheVariants as stores

@@ -16,7 +16,7 @@ use Rattle.profile_rules.specs.declared.parts.Parts.{Parts}
 use Rattle.tile_model.specs.Bounds.{boxes_in}
 use Rattle.tile_model.specs.Contents.{Content, header, elements, unread, header_in, block_in, content_of, in_block, content_at, contents_at, with_later, body_at, IsBody}
 use Rattle.tile_model.specs.Map as maps
-use Rattle.pass_survey.specs.Kept.{kept_in, all_kept, IsSoundKept}
+use Rattle.pass_survey.specs.Kept.{kept_in, all_kept}
 use Rattle.build_one.specs.declared.found.Found.{Found}
 use Rattle.build_one.specs.Found.{Holds, joined, has_nodes, has_ways, with_if, Notes, Steps, IsReady, IsReadyBox, IsOfElements}
 use Rattle.build_one.proofs.Boxes.{some-written}

@@ -1,5 +1,5 @@
 -- The walk over the groups of a merge: the tiles written so far, and the groups that are left.
-use Rattle.std.proofs.Common.{◌≡◌, ℕ, ◌+◌, ◌*◌, ◌-◌, ◌<◌, ◌≤◌, ◌^◌, nat_lt, Bool, true, false, cond, min, Option, None, Some, IfSome, OnOk, Result, Ok, Err, List, [], ◌∷◌, ◌++◌, length, map, All, refl, sym, ap, subst, ◌∙◌, arith, append_assoc}
+use Rattle.std.proofs.Common.{◌≡◌, ℕ, ◌-◌, ◌<◌, ◌≤◌, ◌^◌, nat_lt, Bool, true, false, cond, min, Option, None, Some, IfSome, Ok, Err, List, [], ◌∷◌, ◌++◌, length, refl, sym, ap, subst, ◌∙◌, arith, append_assoc}
 use Rattle.std.specs.Prelude.{⊤}
 use Rattle.std.proofs.lemmas.Bool.{lt-ltb, le-ltb}
 use Rattle.std.proofs.lemmas.List.{append-nil, map-append, length-append}
@@ -10,7 +10,6 @@ use Rattle.mvt_codec.proofs.ItemLengths.{item_len}
 use Rattle.run_merge.specs.declared.cursor.Cursor.{Cursor}
 use Rattle.run_merge.specs.declared.cursor.Head.{Head}
 use Rattle.tb_types.specs.Needs.{group_need}
-use Rattle.tb_types.specs.declared.trouble.Whom.{Whom}
 use Rattle.tb_types.specs.declared.trouble.Whom.TheVariants as whom
 use Rattle.tb_outside.specs.Spill.{SpillSeen, Runs}
 use Rattle.mvt_codec.specs.declared.item.RunItem.{RunItem}
@@ -22,13 +21,11 @@ use Rattle.pmtiles_file.specs.Spool.{KeepsEnded}
 use Rattle.pmtiles_file.specs.Writing.{WriterSeen, Wrote, RunsStand, next_id}
 use Rattle.run_merge.specs.declared.merge_err.MergeErr.{MergeErr}
 use Rattle.run_merge.specs.declared.merge_err.MergeErr.TheVariants as errors
-use Rattle.run_merge.specs.declared.named_run.NamedRun.{NamedRun}
 use Rattle.run_merge.specs.declared.named_run.Store.TheVariants as stores
-use Rattle.run_merge.specs.Answers.{Merging, IfNext, Gives, IsAtEnd, IsTooLarge, IsReady, first_need}
+use Rattle.run_merge.specs.Answers.{Merging, IfNext, Gives, IsAtEnd, first_need}
 use Rattle.run_merge.specs.Cursors.{AreThere, AreTold, AreFrom, IsFrom, cursors_of, head_tile, left_groups}
-use Rattle.run_merge.specs.Objects.{Objects, AllTell, Keeps, NoneRose, OnlyRose, spill_of, whom_of}
-use Rattle.run_merge.specs.Steps.{FailsIn}
-use Rattle.run_merge.proofs.ObjectSteps.{keeps_refl, keeps_trans, keeps_same, keeps_spool, none_refl, none_trans, none_same, none_spool, only_after, only_spool, tell_still, kept_told, there_still, told_still, groups_still, fails_keep}
+use Rattle.run_merge.specs.Objects.{Objects, AllTell, Keeps, NoneRose, spill_of}
+use Rattle.run_merge.proofs.ObjectSteps.{keeps_refl, keeps_trans, keeps_same, keeps_spool, none_refl, none_trans, none_same, none_spool, only_after, only_spool, tell_still, kept_told, there_still, told_still, groups_still}
 use Rattle.tile_model.specs.Map.{tile_from, tiles_from}
 use Rattle.tile_model.specs.Needs.{tile_need, first_over}
 use Rattle.build_one.specs.Writing.{HasWrote, Writes, TileCounts, TileAnswers, Ends, Stays, TilesAnswers}

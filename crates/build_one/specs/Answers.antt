@@ -1,6 +1,5 @@
 -- What a build's answer says, and what it leaves of the objects that it uses, on any number of lanes.
 use Rattle.std.specs.Prelude.{◌≡◌, ◌⊎◌, ℕ, ◌≤◌, Option, Some, None, IfSome, Result, Ok, Err, List, [], ◌∷◌, map, ⊤}
-use Rattle.tb_types.specs.declared.trouble.Whom.{Whom}
 use Rattle.tb_outside.specs.Sink.{SinkSeen, with_more, GrowsByPrefix}
 use Rattle.tb_outside.specs.Spill.{Runs, SpillSeen}
 use Rattle.profile_rules.specs.declared.parts.Parts.{Parts}

@@ -1,7 +1,6 @@
-use Rattle.std.proofs.Common.{ℕ, ◌≡◌, Option, IfSome, Result, Ok, Err, List, [], ◌∷◌, refl, sym, ap, subst, ◌∙◌, arith}
+use Rattle.std.proofs.Common.{ℕ, Option, IfSome, Ok, Err, List, [], ◌∷◌, sym, ap, subst, ◌∙◌, arith}
 use Rattle.tb_types.specs.Counts.{Counted}
 use Rattle.tb_types.specs.Needs.{batch_part}
-use Rattle.tb_outside.specs.declared.spill.RunAt.{RunAt}
 use Rattle.tile_model.specs.declared.stop.Stop.{Stop}
 use Rattle.tile_model.specs.Contents.{contents_at}
 use Rattle.build_one.specs.declared.found.Found.{Found}

@@ -1,4 +1,4 @@
-use Rattle.std.proofs.Common.{Result, Ok, Err, ◌∷◌, [], slice_index_or, refl, sym, ap, subst}
+use Rattle.std.proofs.Common.{Ok, Err, ◌∷◌, [], slice_index_or, refl, sym, ap, subst}
 use Rattle.tile_model.specs.declared.stop.Stop.{Stop}
 use Rattle.build_one.specs.Made.{MapWritten}
 use Rattle.build_one.proofs.OneLane.{of-one, map-stopped, map-ended}

@@ -1,4 +1,3 @@
-use Rattle.std.proofs.Common.{Ok}
 use Rattle.build_one.proofs.Gathered.{emits-flushed}
 use Rattle.build_one.proofs.relations.add_relations.Goals as goal
 

@@ -1,5 +1,4 @@
-use Rattle.std.proofs.Common.{Ok, Err, ap, length, ◌∙◌, arith}
-use Rattle.tb_outside.specs.declared.spill.SpillErr.TheVariants as spill_errors
+use Rattle.std.proofs.Common.{Ok, ap, length, ◌∙◌, arith}
 use Rattle.build_one.proofs.Adding.{tile-added}
 use Rattle.build_one.proofs.Texts.{some-group, short-group, in-layers, writable-group}
 use Rattle.build_one.proofs.tiles.put_tile.Goals as goal

@@ -1,4 +1,4 @@
-use Rattle.std.proofs.Common.{Option, Some, Ok, Err, List, length, ◌≡◌, ap, sym, subst, arith}
+use Rattle.std.proofs.Common.{Option, Ok, sym, subst, arith}
 use Rattle.mvt_codec.specs.declared.item.Group.{Group}
 use Rattle.run_merge.specs.Answers.{IfNext}
 use Rattle.run_merge.specs.Cursors.{AreTold, cursors_of}
