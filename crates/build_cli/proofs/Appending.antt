@@ -1,5 +1,6 @@
 -- Pieces that are appended one behind another.
-use Rattle.std.proofs.Common.{◌≡◌, ℕ, ◌+◌, ◌<◌, ◌≤◌, Option, None, Some, Ok, Err, List, [], ◌∷◌, ◌++◌, length, take, drop, get_or, map, refl, sym, ap, subst, ◌∙◌, arith, append_assoc}
+use Rattle.std.proofs.Common.{◌≡◌, ℕ, ◌+◌, ◌<◌, ◌≤◌, Option, None, Some, Result, Ok, Err, List, [], ◌∷◌, ◌++◌, length, take, drop, get_or, map, refl, sym, ap, subst, ◌∙◌, arith, append_assoc}
+use Rattle.std.specs.Prelude.{⊤}
 use Rattle.std.specs.List.{concat}
 use Rattle.std.specs.Borrow.{Bor}
 use Rattle.std.proofs.lemmas.List.{append-nil, take_more, drop_more, take_all, map-append, take-append-drop}
@@ -77,3 +78,30 @@ appended-fails pieces old mid new i d e h s prefix rose rising = record {
 -- two pieces are as they should be
 pub also : (a b x y : List ℕ) → a ≡ b → x ≡ y → a ++ x ≡ b ++ y
 also a b x y h k = ap (λ prefix. prefix ++ x) h ∙ ap (λ later. b ++ later) k
+
+-- a text behind another one: both are appended, or a prefix of both
+pub both-appended : (old mid new : SinkSeen) (a b : List ℕ) (r : Result ⊤ Failed) → SinkAnswers old mid a (Ok tt) → SinkAnswers mid new b r → SinkAnswers old new (a ++ b) r
+both-appended old mid new a b (Ok x) h k = record {
+  appended = k.appended ∙ (ap (λ o. with_more o b) h.appended ∙ more-twice old.bytes a b);
+  prefix = tt;
+  ok = k.ok ∙ h.ok;
+  err = tt;
+  never_falls = let one = h.never_falls in let two = k.never_falls in omega (arith, one, two);
+}
+both-appended old mid new a b (Err e) h k = record {
+  appended = tt;
+  prefix = prefix-of old.bytes mid.bytes new.bytes a b [] (a ++ b) h.appended (ap (λ xs. a ++ xs) (sym (append-nil b))) k.prefix;
+  ok = tt;
+  err = subst (λ n. Rose n new.faults) h.ok k.err;
+  never_falls = let one = h.never_falls in let two = k.never_falls in omega (arith, one, two);
+}
+
+-- the first of two failed
+pub first-fails : (old new : SinkSeen) (a b : List ℕ) (e : Failed) → SinkAnswers old new a (Err e) → SinkAnswers old new (a ++ b) (Err e)
+first-fails old new a b e h = record {
+  appended = tt;
+  prefix = (h.prefix.0, h.prefix.1 ++ b, ap (λ xs. xs ++ b) h.prefix.2 ∙ append_assoc h.prefix.0 h.prefix.1 b, h.prefix.3);
+  ok = tt;
+  err = h.err;
+  never_falls = h.never_falls;
+}

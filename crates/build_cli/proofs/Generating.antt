@@ -13,7 +13,7 @@ use Rattle.build_cli.specs.declared.status.Refusal.TheVariants.{Stopped}
 use Rattle.build_cli.specs.declared.generate.Generated.{Generated}
 use Rattle.build_cli.specs.declared.generate.GenErr.{GenErr}
 use Rattle.build_cli.specs.declared.generate.GenErr.TheVariants as gen_errors
-use Rattle.build_cli.specs.Command.{Command, build, check, show, generate}
+use Rattle.build_cli.specs.Command.{Command, build, check, show, generate, trial}
 use Rattle.build_cli.specs.Ended.{generate_ended}
 use Rattle.build_cli.specs.Extract.{totals_of, generated_line}
 use Rattle.build_cli.specs.Status.{done, status_of}
@@ -33,7 +33,7 @@ pub generating-start : (frames : List (List ℕ)) (s : SinkSeen) → Generating 
 generating-start frames s = record { appended = []; all = refl; bytes = more-nothing s.bytes; faults = refl; counted = refl }
 
 -- the bytes of frames, and of one behind them
-concat-next : (frames : List (List ℕ)) (frame : List ℕ) → concat (frames ++ frame ∷ []) ≡ concat frames ++ frame
+pub concat-next : (frames : List (List ℕ)) (frame : List ℕ) → concat (frames ++ frame ∷ []) ≡ concat frames ++ frame
 concat-next frames frame = concat-append frames (frame ∷ []) ∙ ap (λ last. concat frames ++ last) (append-nil frame)
 
 same-totals : (a b c d : ℕ) → a ≡ c → b ≡ d → (let x : Generated = record { blocks = a; bytes = b } in let y : Generated = record { blocks = c; bytes = d } in x ≡ y)
@@ -138,6 +138,7 @@ generated_of (Some (check archive)) before after console new_console answer h is
 generated_of (Some (show archive tile)) before after console new_console answer h is = tt
 generated_of (Some (generate seed count extract)) before after console new_console answer h is =
     generated-by seed count before after console new_console answer h.result h.generated h.unused h.told is
+generated_of (Some (trial seed count archive)) before after console new_console answer h is = tt
 
 pub complete_of : (command : Option Command) (before after : Objects) (console new_console : SinkSeen) (answer : ℕ) → AnswersCommand command before after console new_console answer → (Rose before.archive.faults after.archive.faults → ⊥)
     → (Rose console.faults new_console.faults → ⊥) → IfGenerates command (λ seed count. (answer ≡ done) ⊎ (answer ≡ status_of (Stopped stops.Memory)))
@@ -147,3 +148,4 @@ complete_of (Some (check archive)) before after console new_console answer h sti
 complete_of (Some (show archive tile)) before after console new_console answer h still quiet = tt
 complete_of (Some (generate seed count extract)) before after console new_console answer h still quiet =
     complete-by (frames_of seed count) before.archive after.archive console new_console answer h.result h.generated h.told still quiet
+complete_of (Some (trial seed count archive)) before after console new_console answer h still quiet = tt

@@ -3,4 +3,5 @@ pub mod Generating
 pub mod Looking
 pub mod Numerals
 pub mod Statuses
+pub mod Trying
 pub mod WordCounts

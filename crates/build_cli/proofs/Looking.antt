@@ -11,7 +11,7 @@ use Rattle.archive_text.specs.Due.{first_fault, unless_fault, due_of}
 use Rattle.tile_model.specs.Objects.{Objects, reading, spilling, writing, CountsStay, NoneRose, first_bytes, extract_in, reader_count, count_of}
 use Rattle.build_cli.specs.Ended.{look_ended}
 use Rattle.build_cli.specs.Status.{done}
-use Rattle.build_cli.specs.Command.{Command, build, check, show, generate}
+use Rattle.build_cli.specs.Command.{Command, build, check, show, generate, trial}
 use Rattle.build_cli.specs.Answers.{Tells, LooksAtFirst, AnswersLook, AnswersCommand}
 use Rattle.build_cli.specs.Looks.{text_of, IsShown, Fits}
 
@@ -110,6 +110,7 @@ shown_of (Some (build rules extract archive budget)) before after console new_co
 shown_of (Some (check archive)) before after console new_console answer h is = shown _ before after console new_console answer h is
 shown_of (Some (show archive tile)) before after console new_console answer h is = shown _ before after console new_console answer h is
 shown_of (Some (generate seed count extract)) before after console new_console answer h is = tt
+shown_of (Some (trial seed count archive)) before after console new_console answer h is = tt
 
 pub fits_of : (command : Option Command) (before after : Objects) (console new_console : SinkSeen) (answer : ℕ) → AnswersCommand command before after console new_console answer → NoneRose before after → (Rose console.faults new_console.faults → ⊥)
     → IfSome (text_of command) (λ text. IfSome (extract_in before) (λ archive. Fits (due_of text archive) answer))
@@ -118,3 +119,4 @@ fits_of (Some (build rules extract archive budget)) before after console new_con
 fits_of (Some (check archive)) before after console new_console answer h none quiet = fits _ before after console new_console answer h none quiet
 fits_of (Some (show archive tile)) before after console new_console answer h none quiet = fits _ before after console new_console answer h none quiet
 fits_of (Some (generate seed count extract)) before after console new_console answer h none quiet = tt
+fits_of (Some (trial seed count archive)) before after console new_console answer h none quiet = tt

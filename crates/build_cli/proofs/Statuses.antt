@@ -1,5 +1,5 @@
 -- What statuses say of the answers that stand behind them.
-use Rattle.std.proofs.Common.{◌≡◌, inl, inr, ◌↔◌, ℕ, Option, None, Some, IfSome, Result, Ok, Err, List, ◌++◌, refl, sym, ap, subst, ◌∙◌, arith}
+use Rattle.std.proofs.Common.{◌≡◌, inl, inr, ◌↔◌, ℕ, Option, None, Some, IfSome, Result, Ok, Err, List, [], ◌++◌, refl, sym, ap, subst, ◌∙◌, arith}
 use Rattle.tb_outside.specs.Sink.{SinkSeen, with_more}
 use Rattle.tile_model.specs.declared.from.ProfileFrom.{ProfileFrom}
 use Rattle.tile_model.specs.declared.stop.Stop.{Stop}
@@ -12,10 +12,10 @@ use Rattle.tile_model.specs.Objects.{Objects, all_told, extract_in}
 use Rattle.tile_model.specs.Due.{Due, due_in}
 use Rattle.tile_model.specs.Due as builds
 use Rattle.build_cli.specs.Told.{due_of}
-use Rattle.build_one.specs.Answers.{BuildAnswers, OnBuilt, IfTold}
-use Rattle.build_cli.specs.Command.{Command, build, check, show, generate, source_of}
-use Rattle.build_cli.specs.Ended.{build_ended, look_ended, generate_ended}
-use Rattle.build_cli.specs.Answers.{Tells, AnswersLook, AnswersCommand, due_of_command, IsWritten}
+use Rattle.build_one.specs.Answers.{BuildAnswers, OnBuilt, IfTold, Writes}
+use Rattle.build_cli.specs.Command.{Command, build, check, show, generate, trial, source_of}
+use Rattle.build_cli.specs.Ended.{build_ended, look_ended, generate_ended, trial_ended}
+use Rattle.build_cli.specs.Answers.{Tells, AnswersLook, AnswersTrial, AnswersCommand, due_of_command, IsWritten}
 use Rattle.build_cli.specs.Status.{done, status_of}
 use Rattle.build_cli.specs.declared.generate.Generated.{Generated}
 use Rattle.build_cli.specs.declared.generate.GenErr.{GenErr}
@@ -44,9 +44,16 @@ never_words (stops.Outside w run at) e = absurd (omega arith)
 never_words (stops.Changed pass block) e = absurd (omega arith)
 never_words stops.Memory e = absurd (omega arith)
 
-written : (from : ProfileFrom) (budget : ℕ) (before after : Objects) (console new_console : SinkSeen) (answer : ℕ) (result : Result Totals Stop) → Tells (build_ended result) console new_console answer → BuildAnswers from budget before after result → answer ≡ done → IsWritten (due_in from budget before) before after
+written : (from : ProfileFrom) (budget : ℕ) (before after : Objects) (console new_console : SinkSeen) (answer : ℕ) (result : Result Totals Stop) → Tells (build_ended result) console new_console answer → BuildAnswers from budget 1 before after result → answer ≡ done → IsWritten (due_in from budget before) before after
 written from budget before after console new_console answer (Ok totals) told built is = built.written
 written from budget before after console new_console answer (Err stop) told built is = absurd (never_done stop (sym told.0 ∙ is))
+
+trial_written : (seed count : ℕ) (before after : Objects) (console new_console : SinkSeen) (answer : ℕ) → AnswersTrial seed count before after console new_console answer → answer ≡ done → IsWritten (due_of_command (Some (trial seed count [])) before) before after
+trial_written seed count before after console new_console answer h is = by h.result h.told h.built.written
+  where
+    by : (result : Result Totals Stop) → Tells (trial_ended seed count result) console new_console answer → Writes result (all_told before) (due_of_command (Some (trial seed count [])) before) before.archive after.archive → IsWritten (due_of_command (Some (trial seed count [])) before) before after
+    by (Ok totals) told wrote = wrote
+    by (Err stop) told wrote = absurd (never_done stop (sym told.0 ∙ is))
 
 if_told : (runs : Option Runs) (P : Type 0) → P → IfTold runs P
 if_told None P h = tt
@@ -58,6 +65,7 @@ done_written (Some (build rules extract archive budget)) before after console ne
 done_written (Some (check archive)) before after console new_console answer h is = if_told (all_told before) _ tt
 done_written (Some (show archive tile)) before after console new_console answer h is = if_told (all_told before) _ tt
 done_written (Some (generate seed count extract)) before after console new_console answer h is = if_told (all_told before) _ tt
+done_written (Some (trial seed count archive)) before after console new_console answer h is = trial_written seed count before after console new_console answer h is
 
 done_is_understood : (text : List ℕ) (console new_console : SinkSeen) (answer : ℕ) → Tells (Ok text) console new_console answer → answer ≡ 2 → ⊥
 done_is_understood text console new_console answer (inl t) is = let zero : answer ≡ 0 = t.0 in omega arith
@@ -78,6 +86,10 @@ generate_understood console new_console answer (Ok totals) told is = done_is_und
 generate_understood console new_console answer (Err gen_errors.Sink) told is = let nine : answer ≡ 9 = told.0 in omega arith
 generate_understood console new_console answer (Err gen_errors.Memory) told is = let ten : answer ≡ 10 = told.0 in omega arith
 
+trial_understood : (seed count : ℕ) (console new_console : SinkSeen) (answer : ℕ) (result : Result Totals Stop) → Tells (trial_ended seed count result) console new_console answer → answer ≡ 2 → ⊥
+trial_understood seed count console new_console answer (Ok totals) told is = done_is_understood _ console new_console answer told is
+trial_understood seed count console new_console answer (Err stop) told is = never_words stop (sym told.0 ∙ is)
+
 is_looking : (text : List ℕ → List ℕ) (before after : Objects) (console new_console : SinkSeen) (answer : ℕ) → AnswersLook text before after console new_console answer → answer ≡ 2 → ⊥
 is_looking text before after console new_console answer h is = look_understood console new_console answer h.result h.told is
 
@@ -89,6 +101,8 @@ only_words (Some (check archive)) before after console new_console answer h = (�
 only_words (Some (show archive tile)) before after console new_console answer h = (λ is. absurd (is_looking _ before after console new_console answer h is), λ none. absurd cc)
 only_words (Some (generate seed count extract)) before after console new_console answer h =
     (λ is. absurd (generate_understood console new_console answer h.result h.told is), λ none. absurd cc)
+only_words (Some (trial seed count archive)) before after console new_console answer h =
+    (λ is. absurd (trial_understood seed count console new_console answer h.result h.told is), λ none. absurd cc)
 
 -- the same in the words of objects that tell
 told_by : (runs : Option Runs) (told : Runs) (P : Type 0) → runs ≡ Some told → IfTold runs P → P
@@ -113,6 +127,8 @@ told_grown (Some (build rules extract archive budget)) before after profile read
 told_grown (Some (check archive)) before after profile reader old new told p r runs h was is = tt
 told_grown (Some (show archive tile)) before after profile reader old new told p r runs h was is = tt
 told_grown (Some (generate seed count extract)) before after profile reader old new told p r runs h was is = tt
+told_grown (Some (trial seed count archive)) before after profile reader old new told p r runs h was is =
+    grown (due_of_command (Some (trial seed count archive)) before) before after told old new h runs was is
 
 -- both of an answer
 pub told_done : (command : Option Command) (before after : Objects) (console new_console : SinkSeen) (answer : ℕ) (profile reader old new : List ℕ) (told : Runs) → AnswersCommand command before after console new_console answer → answer ≡ done

@@ -12,18 +12,20 @@ use Rattle.tile_model.specs.declared.from.ProfileFrom.{ProfileFrom}
 use Rattle.tile_model.specs.declared.stop.Stop.{Stop}
 use Rattle.pmtiles_dirs.specs.declared.totals.Totals.{Totals}
 use Rattle.tile_model.specs.Objects.{Objects, all_told}
-use Rattle.tile_model.specs.Due.{Due, due_in}
+use Rattle.tile_model.specs.declared.from.ProfileFrom.TheVariants as profiles
+use Rattle.tile_model.specs.Due.{Due, due_in, due_of}
 use Rattle.tile_model.specs.From.{IsAlone}
 use Rattle.build_one.specs.Answers.{BuildAnswers, OnBuilt, IfTold}
-use Rattle.gen_world.specs.Frames.{frames_of}
-use Rattle.build_cli.specs.Command.{Command, build, check, show, generate, command_of, source_of}
-use Rattle.build_cli.specs.Ended.{Ended, build_ended, look_ended, generate_ended}
+use Rattle.gen_world.specs.Frames.{frames_of, extract_of}
+use Rattle.build_cli.specs.Command.{Command, build, check, show, generate, trial, command_of, source_of}
+use Rattle.build_cli.specs.Ended.{Ended, build_ended, look_ended, generate_ended, trial_ended}
 use Rattle.build_cli.specs.Extract.{totals_of}
 use Rattle.build_cli.specs.Line.{line_of}
 use Rattle.build_cli.specs.Status.{done, sink_failed, status_of}
 use Rattle.build_cli.specs.declared.generate.Generated.{Generated}
 use Rattle.build_cli.specs.declared.generate.GenErr.{GenErr}
 use Rattle.build_cli.specs.declared.generate.GenErr.TheVariants as gen_errors
+use Rattle.build_cli.specs.declared.number.TheConstants.{DEFAULT_BUDGET}
 use Rattle.build_cli.specs.declared.status.Refusal.TheVariants.{Words}
 
 -- the console has a line more, or a prefix of it where its count rose; its count never falls
@@ -51,7 +53,7 @@ Tells (Err refusal) old new answer = (answer ≡ status_of refusal) × HasLine o
 -- a build by these rules answered, and the status and the console tell of its answer
 pub record AnswersBuild (from : ProfileFrom) (budget : ℕ) (before after : Objects) (console new_console : SinkSeen) (answer : ℕ) : Type 0 where
   pub result : Result Totals Stop
-  pub built : BuildAnswers from budget before after result
+  pub built : BuildAnswers from budget 1 before after result
   pub told : Tells (build_ended result) console new_console answer
 
 -- the reader of lane 0 was asked for a text of the archive that it has, and those of other lanes weren't used
@@ -80,6 +82,18 @@ pub record AnswersGenerate (seed count : ℕ) (before after : Objects) (console 
   pub unused : after ≡ record before { archive = after.archive }
   pub told : Tells (generate_ended result) console new_console answer
 
+-- what is seen of the reader of a generated extract, which tells its bytes and never fails
+abbrev pub generated_reader : ℕ → ℕ → SourceSeen
+generated_reader seed count = record { bytes = Some (extract_of seed count); log = None; faults = 0 }
+
+-- A map of a generated extract by the profile of trials was built as that of one that a lane's reader has, within the budget of a build that gives
+-- none; status and console tell of it, and the lane's own reader and the profile's source are as they were.
+pub record AnswersTrial (seed count : ℕ) (before after : Objects) (console new_console : SinkSeen) (answer : ℕ) : Type 0 where
+  pub result : Result Totals Stop
+  pub built : BuildAnswers profiles.Trial DEFAULT_BUDGET 1 (record before { readers = generated_reader seed count ∷ [] }) (record after { readers = generated_reader seed count ∷ [] }) result
+  pub readers : after.readers ≡ before.readers
+  pub told : Tells (trial_ended seed count result) console new_console answer
+
 -- the words are no command: nothing but the console is touched
 pub record AnswersWords (before after : Objects) (console new_console : SinkSeen) (answer : ℕ) : Type 0 where
   pub status : answer ≡ status_of Words
@@ -92,6 +106,7 @@ AnswersCommand (Some (build rules extract archive budget)) before after console 
 AnswersCommand (Some (check archive)) before after console new_console answer = AnswersLook check_text before after console new_console answer
 AnswersCommand (Some (show archive tile)) before after console new_console answer = AnswersLook (show_text tile) before after console new_console answer
 AnswersCommand (Some (generate seed count extract)) before after console new_console answer = AnswersGenerate seed count before after console new_console answer
+AnswersCommand (Some (trial seed count archive)) before after console new_console answer = AnswersTrial seed count before after console new_console answer
 
 -- What a command that leaves them alone doesn't touch, also where objects don't tell what they hold: the profile's source, the reader, the
 -- spool, and the archive's sink.
@@ -101,6 +116,7 @@ Leaves (Some (build rules extract output budget)) profile reader spill spool arc
 Leaves (Some (check input)) profile reader spill spool archive = profile × spill × spool × archive
 Leaves (Some (show input tile)) profile reader spill spool archive = profile × spill × spool × archive
 Leaves (Some (generate seed count output)) profile reader spill spool archive = profile × reader × spill × spool
+Leaves (Some (trial seed count output)) profile reader spill spool archive = profile × reader
 
 -- The promise of a top call.
 abbrev pub Answers : List (List ℕ) → Objects → Objects → SinkSeen → SinkSeen → ℕ → Type 0
@@ -113,6 +129,7 @@ due_of_command (Some (build rules extract archive budget)) before = due_in (sour
 due_of_command (Some (check archive)) before = None
 due_of_command (Some (show archive tile)) before = None
 due_of_command (Some (generate seed count extract)) before = None
+due_of_command (Some (trial seed count archive)) before = due_of profiles.Trial DEFAULT_BUDGET None (Some (extract_of seed count))
 
 -- an archive is due, and stands behind what the archive's sink had, where the spool tells its runs
 abbrev pub IsWritten : Option Due → Objects → Objects → Type 0

@@ -7,12 +7,12 @@ use Rattle.tb_types.specs.declared.tile.TileXyz.{TileXyz}
 use Rattle.hilbert_ids.specs.Ids.{IsTile}
 use Rattle.tile_model.specs.declared.from.ProfileFrom.{ProfileFrom}
 use Rattle.tile_model.specs.declared.from.ProfileFrom.TheVariants as profiles
-use Rattle.build_cli.specs.Numbers.{budget_of, seed_of, count_of, tile_of}
+use Rattle.build_cli.specs.Numbers.{budget_of, seed_of, count_of, trial_count_of, tile_of}
 use Rattle.build_cli.specs.declared.command.Command as declared
 use Rattle.build_cli.specs.declared.command.Command.TheVariants as commands
 use Rattle.build_cli.specs.declared.command.Rules as declared_rules
 use Rattle.build_cli.specs.declared.command.Rules.TheVariants as rules
-use Rattle.build_cli.specs.declared.number.TheConstants.{DEFAULT_BUDGET, FEWEST, MOST, MOST_BUDGET}
+use Rattle.build_cli.specs.declared.number.TheConstants.{DEFAULT_BUDGET, FEWEST, MOST, MOST_BUDGET, MOST_TRIED}
 
 -- where the rules of a build come from: one rule for a key, or the profile in a file
 pub data Rules : Type 0 where
@@ -28,6 +28,8 @@ pub data Command : Type 0 where
   show : List ℕ → TileXyz → Command
   -- generate the extract of a seed and a number of elements
   generate : ℕ → ℕ → List ℕ → Command
+  -- build the map of the extract of a seed and a number of elements by the profile of trials
+  trial : ℕ → ℕ → List ℕ → Command
 
 -- a word that is an argument: not empty, and no option
 abbrev pub is_argument : List ℕ → Bool
@@ -67,8 +69,13 @@ with_budget name a b c d e =
 abbrev pub generate_of : List ℕ → List ℕ → List ℕ → Option Command
 generate_of seed count extract = if is_argument extract then option_and_then (λ s. option_map (λ n. generate s n extract) (count_of count)) (seed_of seed) else None
 
+abbrev pub trial_of : List ℕ → List ℕ → List ℕ → Option Command
+trial_of seed count archive = if is_argument archive then option_and_then (λ s. option_map (λ n. trial s n archive) (trial_count_of count)) (seed_of seed) else None
+
 abbrev pub four_of : List ℕ → List ℕ → List ℕ → List ℕ → Option Command
-four_of name first second third = if bytes_eq name (codes "gen") then generate_of first second third else build_of name first second third
+four_of name first second third =
+    if bytes_eq name (codes "gen") then generate_of first second third else
+    if bytes_eq name (codes "trial") then trial_of first second third else build_of name first second third
 
 abbrev pub show_of : List ℕ → List ℕ → List ℕ → List ℕ → List ℕ → Option Command
 show_of name archive zoom column row = if bytes_eq name (codes "show") && is_argument archive then option_map (show archive) (tile_of zoom column row) else None
@@ -94,6 +101,7 @@ seen_command (commands.Build rules extract archive budget) = build (seen_rules r
 seen_command (commands.Check archive) = check archive.now
 seen_command (commands.Show archive tile) = show archive.now tile
 seen_command (commands.Generate seed count extract) = generate seed count extract.now
+seen_command (commands.Trial seed count archive) = trial seed count archive.now
 
 -- where the profile of a build comes from
 abbrev pub source_of : Rules → ProfileFrom
@@ -111,3 +119,4 @@ HasGoodValues (build rules extract archive budget) = IsKeyed rules × (budget �
 HasGoodValues (check archive) = Unit {0}
 HasGoodValues (show archive tile) = IsTile tile
 HasGoodValues (generate seed count extract) = (FEWEST ≤ count) × (count ≤ MOST)
+HasGoodValues (trial seed count archive) = (FEWEST ≤ count) × (count ≤ MOST_TRIED)

@@ -8,7 +8,7 @@ use Rattle.tile_model.specs.declared.stop.Stop.{Stop}
 use Rattle.tile_model.specs.declared.stop.Stop.TheVariants as stops
 use Rattle.build_cli.specs.declared.status.Refusal.{Refusal}
 use Rattle.build_cli.specs.declared.status.Refusal.TheVariants.{Stopped, Faulty}
-use Rattle.build_cli.specs.Line.{success_line}
+use Rattle.build_cli.specs.Line.{success_line, trial_line}
 use Rattle.build_cli.specs.Extract.{generated_line}
 use Rattle.build_cli.specs.declared.generate.Generated.{Generated}
 use Rattle.build_cli.specs.declared.generate.GenErr.{GenErr}
@@ -21,6 +21,11 @@ Ended = Result (List ℕ) Refusal
 abbrev pub build_ended : Result Totals Stop → Ended
 build_ended (Ok totals) = Ok (success_line totals)
 build_ended (Err stop) = Err (Stopped stop)
+
+-- a trial of this seed and number of elements
+abbrev pub trial_ended : ℕ → ℕ → Result Totals Stop → Ended
+trial_ended seed count (Ok totals) = Ok (trial_line seed count totals)
+trial_ended seed count (Err stop) = Err (Stopped stop)
 
 -- a look into the archive of lane 0's reader
 abbrev pub refusal_of : ReadErr → Refusal

@@ -6,7 +6,7 @@ use Rattle.gen_world.specs.Frames.{frames_of, extract_of}
 use Rattle.tile_model.specs.declared.stop.Stop.TheVariants as stops
 use Rattle.tile_model.specs.Objects.{Objects, CountsStay}
 use Rattle.build_cli.specs.declared.status.Refusal.TheVariants.{Stopped}
-use Rattle.build_cli.specs.Command.{Command, build, check, show, generate, command_of}
+use Rattle.build_cli.specs.Command.{Command, build, check, show, generate, trial, command_of}
 use Rattle.build_cli.specs.Extract.{totals_of, generated_line}
 use Rattle.build_cli.specs.Status.{done, status_of}
 use Rattle.build_cli.specs.Answers.{Answers}
@@ -18,6 +18,7 @@ IfGenerates (Some (build rules extract archive budget)) P = Unit {0}
 IfGenerates (Some (check archive)) P = Unit {0}
 IfGenerates (Some (show archive tile)) P = Unit {0}
 IfGenerates (Some (generate seed count extract)) P = P seed count
+IfGenerates (Some (trial seed count archive)) P = Unit {0}
 
 -- the archive's sink has just the extract more, the console just the line of its blocks and bytes, no count rose, and nothing else was used
 pub record IsGenerated (seed count : ℕ) (before after : Objects) (console new_console : SinkSeen) : Type 0 where

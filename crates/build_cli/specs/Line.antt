@@ -1,5 +1,5 @@
 -- The lines on the console.
-use Rattle.std.specs.Prelude.{ℕ, ◌==◌, if◌then◌else◌, List, [], ◌∷◌, codes, decimal}
+use Rattle.std.specs.Prelude.{ℕ, ◌==◌, if◌then◌else◌, List, [], ◌∷◌, ◌++◌, codes, decimal}
 use Rattle.std.specs.List.{concat}
 use Rattle.tb_types.specs.declared.damage.Why.{Why}
 use Rattle.tb_types.specs.declared.damage.Why.TheVariants as reasons
@@ -26,6 +26,17 @@ unfoldable pub success_line : Totals → List ℕ
 success_line totals =
     concat
     (codes "built: tiles " ∷ decimal totals.tiles ∷ codes ", entries " ∷ decimal totals.entries ∷ codes ", contents " ∷ decimal totals.contents ∷ codes ", bytes " ∷ decimal totals.bytes ∷ codes "\n" ∷ [])
+
+-- that of a trial: the town, and what its archive holds
+unfoldable pub town_text : ℕ → ℕ → List ℕ
+town_text seed count = concat (codes "trial: " ∷ decimal seed ∷ codes " " ∷ decimal count ∷ codes ": " ∷ [])
+
+unfoldable pub totals_text : Totals → List ℕ
+totals_text totals =
+    concat (codes "tiles " ∷ decimal totals.tiles ∷ codes ", entries " ∷ decimal totals.entries ∷ codes ", contents " ∷ decimal totals.contents ∷ codes ", bytes " ∷ decimal totals.bytes ∷ codes "\n" ∷ [])
+
+abbrev pub trial_line : ℕ → ℕ → Totals → List ℕ
+trial_line seed count totals = town_text seed count ++ totals_text totals
 
 -- why an extract is damaged
 unfoldable pub why_text : Why → List ℕ

@@ -9,7 +9,7 @@ use Rattle.archive_text.specs.Due.{due_of}
 use Rattle.tile_model.specs.declared.stop.Stop.TheVariants as stops
 use Rattle.tile_model.specs.Objects.{Objects, CountsStay, NoneRose, extract_in}
 use Rattle.build_cli.specs.declared.status.Refusal.TheVariants.{Stopped, Faulty}
-use Rattle.build_cli.specs.Command.{Command, build, check, show, generate, command_of}
+use Rattle.build_cli.specs.Command.{Command, build, check, show, generate, trial, command_of}
 use Rattle.build_cli.specs.Status.{done, status_of}
 use Rattle.build_cli.specs.Answers.{Answers}
 
@@ -20,6 +20,7 @@ text_of (Some (build rules extract archive budget)) = None
 text_of (Some (check archive)) = Some check_text
 text_of (Some (show archive tile)) = Some (show_text tile)
 text_of (Some (generate seed count extract)) = None
+text_of (Some (trial seed count archive)) = None
 
 -- P holds of the text that words ask for and of the archive's bytes, where the words look into one that tells its bytes
 abbrev pub OfText : List (List ℕ) → Objects → ((List ℕ → List ℕ) → List ℕ → Type 0) → Type 0

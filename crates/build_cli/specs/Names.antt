@@ -1,6 +1,6 @@
 -- The names of a command's files.
 use Rattle.std.specs.Prelude.{ℕ, List, [], ◌∷◌}
-use Rattle.build_cli.specs.Command.{Command, Rules, build, check, show, generate, by_key, by_profile}
+use Rattle.build_cli.specs.Command.{Command, Rules, build, check, show, generate, trial, by_key, by_profile}
 use Rattle.build_cli.specs.declared.names.Names.{Names}
 
 -- the name of the file of the rules, if they are in one
@@ -14,3 +14,4 @@ names_of (build rules extract archive budget) = record { profile = profile_name 
 names_of (check archive) = record { profile = []; readers = archive ∷ []; output = [] }
 names_of (show archive tile) = record { profile = []; readers = archive ∷ []; output = [] }
 names_of (generate seed count extract) = record { profile = []; readers = [] ∷ []; output = extract }
+names_of (trial seed count archive) = record { profile = []; readers = [] ∷ []; output = archive }

@@ -5,7 +5,7 @@ use Rattle.std.specs.Str.{bytes_eq}
 use Rattle.std.specs.Str.Parse.{digits_value}
 use Rattle.tb_types.specs.declared.tile.TileXyz.{TileXyz}
 use Rattle.hilbert_ids.specs.Ids.{last_zoom}
-use Rattle.build_cli.specs.declared.number.TheConstants.{FEWEST, LEAST_BUDGET, MOST, MOST_BUDGET}
+use Rattle.build_cli.specs.declared.number.TheConstants.{FEWEST, LEAST_BUDGET, MOST, MOST_BUDGET, MOST_TRIED}
 
 -- the number of a word's digits, where they are digits
 abbrev pub value_of : List ℕ → ℕ
@@ -25,6 +25,10 @@ seed_of word = number_of word (2 ^ 64 - 1)
 
 abbrev pub count_of : List ℕ → Option ℕ
 count_of word = option_and_then (λ n. if nat_le FEWEST n then Some n else None) (number_of word MOST)
+
+-- how many elements a trial has
+abbrev pub trial_count_of : List ℕ → Option ℕ
+trial_count_of word = option_and_then (λ n. if nat_le FEWEST n then Some n else None) (number_of word MOST_TRIED)
 
 -- a budget, in bytes
 abbrev pub budget_of : List ℕ → Option ℕ

@@ -1,6 +1,6 @@
 -- Worked words, and what they ask for.
 use Rattle.std.specs.Prelude.{◌≡◌, None, Some, [], ◌∷◌, codes}
-use Rattle.build_cli.specs.Command.{build, by_profile, check, show, generate, command_of}
+use Rattle.build_cli.specs.Command.{build, by_profile, check, show, generate, trial, command_of}
 
 pub record WorkedWords : Type 0 where
   pub all : command_of (codes "check" ∷ codes "a" ∷ []) ≡ Some (check (codes "a"))
@@ -20,6 +20,8 @@ pub record WorkedWords : Type 0 where
   pub few : command_of (codes "show" ∷ codes "a" ∷ codes "0" ∷ codes "0" ∷ []) ≡ None
   -- the least and the most of a seed and of a number of elements, and one past each
   pub least_extract : command_of (codes "gen" ∷ codes "0" ∷ codes "100" ∷ codes "e" ∷ []) ≡ Some (generate 0 100 (codes "e"))
+  pub most_tried : command_of (codes "trial" ∷ codes "1" ∷ codes "1000000" ∷ codes "a" ∷ []) ≡ Some (trial 1 1000000 (codes "a"))
+  pub more_than_tried : command_of (codes "trial" ∷ codes "1" ∷ codes "1000001" ∷ codes "a" ∷ []) ≡ None
   pub most_extract : command_of (codes "gen" ∷ codes "18446744073709551615" ∷ codes "10000000" ∷ codes "e" ∷ []) ≡ Some (generate 18446744073709551615 10000000 (codes "e"))
   pub few_elements : command_of (codes "gen" ∷ codes "7" ∷ codes "99" ∷ codes "e" ∷ []) ≡ None
   pub many_elements : command_of (codes "gen" ∷ codes "7" ∷ codes "10000001" ∷ codes "e" ∷ []) ≡ None

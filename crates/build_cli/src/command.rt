@@ -1,9 +1,9 @@
 ghost use Rattle.build_cli.specs.declared.number.TheConstants.{MOST_BUDGET};
 ghost use Rattle.std.specs.Prelude.{◌≡◌, ◌≤◌, map, string_bytes, length, not, ◌&&◌, ◌==◌, codes, nat_eq, IfSome, IfOk, true};
 ghost use Rattle.std.specs.Option.{option_map};
-ghost use Rattle.build_cli.specs.Command.{HasGoodValues, IsKeyed, is_argument, rules_of, check_of, build_of, build_within, budgeted, is_budget, with_budget, show_of, generate_of, four_of, command_of, seen_command, seen_rules, source_of};
+ghost use Rattle.build_cli.specs.Command.{HasGoodValues, IsKeyed, is_argument, rules_of, check_of, build_of, build_within, budgeted, is_budget, with_budget, show_of, generate_of, trial_of, four_of, command_of, seen_command, seen_rules, source_of};
 
-use crate::number::{DEFAULT_BUDGET, budget_of, count_of, seed_of, tile_of};
+use crate::number::{DEFAULT_BUDGET, budget_of, count_of, seed_of, tile_of, trial_count_of};
 use build_one::ProfileFrom;
 use std::alloc::Global;
 use tb_types::{Memory, Text, TileXyz};
@@ -41,6 +41,12 @@ pub enum Command<'a> {
         seed: u64,
         count: u64,
         extract: &'a str,
+    },
+    /// Build the map of the extract of a seed and a number of elements by the profile of trials.
+    Trial {
+        seed: u64,
+        count: u64,
+        archive: &'a str,
     },
 }
 
@@ -99,6 +105,8 @@ fn four_of<'a>(name: &str, first: &'a str, second: &'a str, third: &'a str) -> O
 {
     if name == "gen" {
         generate_of(first, second, third)
+    } else if name == "trial" {
+        trial_of(first, second, third)
     } else {
         build_of(name, first, second, third)
     }
@@ -121,6 +129,28 @@ fn generate_of<'a>(seed: &str, count: &str, extract: &'a str) -> Option<Command<
             seed,
             count,
             extract,
+        }),
+        None => None,
+    }
+}
+
+// The command that tries.
+fn trial_of<'a>(seed: &str, count: &str, archive: &'a str) -> Option<Command<'a>>
+    ensures command { option_map seen_command result ≡ trial_of seed.now count.now archive.now }
+    ensures values { IfSome result (λ c. HasGoodValues (seen_command c)) }
+{
+    if !is_argument(archive) {
+        return None;
+    }
+    let seed = match seed_of(seed) {
+        Some(seed) => seed,
+        None => return None,
+    };
+    match trial_count_of(count) {
+        Some(count) => Some(Command::Trial {
+            seed,
+            count,
+            archive,
         }),
         None => None,
     }

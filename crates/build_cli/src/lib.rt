@@ -1,7 +1,7 @@
 //! The commands: takes the words of a command line and the objects outside, gives the status, with the archive written or read.
 //!
 //! Read `run` (the top call), `command`, `number` and `names` (its words), `status` (the one table of statuses), then `line` and `pieces`
-//! (what stands on the console), and `generate`. What the answers promise stands in `specs/Answers`, and laws of it in `laws`.
+//! (what stands on the console), `generate`, `trial` and `trial_line`. What the answers promise stands in `specs/Answers`, and laws of it in `laws`.
 #![tactic(auto)]
 
 mod command;
@@ -13,6 +13,8 @@ mod number;
 mod pieces;
 mod run;
 mod status;
+mod trial;
+mod trial_line;
 
 pub use laws::{
     done_means_generated, done_means_shown, done_means_written, generating_is_complete,

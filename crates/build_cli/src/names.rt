@@ -35,6 +35,7 @@ pub fn names_of(alloc: Global, words: &[String]) -> Result<Option<Names>, Memory
         Some(Command::Check { archive }) => Ok(Some(named(alloc, "", archive, "")?)),
         Some(Command::Show { archive, .. }) => Ok(Some(named(alloc, "", archive, "")?)),
         Some(Command::Generate { extract, .. }) => Ok(Some(named(alloc, "", "", extract)?)),
+        Some(Command::Trial { archive, .. }) => Ok(Some(named(alloc, "", "", archive)?)),
     }
 }
 

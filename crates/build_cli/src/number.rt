@@ -1,6 +1,6 @@
 ghost use Rattle.std.specs.Prelude.{◌≡◌, ◌-◌, ◌^◌, ◌≤◌, IfSome};
 ghost use Rattle.hilbert_ids.specs.Ids.{IsTile, last_zoom};
-ghost use Rattle.build_cli.specs.Numbers.{number_of, budget_of, seed_of, count_of, tile_of};
+ghost use Rattle.build_cli.specs.Numbers.{number_of, budget_of, seed_of, count_of, trial_count_of, tile_of};
 
 use hilbert_ids::MAX_ZOOM;
 use itoa::Buffer;
@@ -11,6 +11,9 @@ pub const FEWEST: u64 = 100;
 
 /// The most elements of an extract that is generated.
 pub const MOST: u64 = 10_000_000;
+
+/// The most elements of an extract that is tried.
+pub const MOST_TRIED: u64 = 1_000_000;
 
 /// The budget of a build that gives none, in bytes.
 pub const DEFAULT_BUDGET: u64 = 1 << 30;
@@ -51,6 +54,18 @@ pub fn count_of(word: &str) -> Option<u64>
     ensures within { IfSome result (λ n. (FEWEST ≤ n) × (n ≤ MOST)) }
 {
     let n = match number_of(word, MOST) {
+        Some(n) => n,
+        None => return None,
+    };
+    if n >= FEWEST { Some(n) } else { None }
+}
+
+/// How many elements a trial has: 100 to 1,000,000.
+pub fn trial_count_of(word: &str) -> Option<u64>
+    ensures number { result ≡ trial_count_of word.now }
+    ensures within { IfSome result (λ n. (FEWEST ≤ n) × (n ≤ MOST_TRIED)) }
+{
+    let n = match number_of(word, MOST_TRIED) {
         Some(n) => n,
         None => return None,
     };

@@ -14,6 +14,8 @@ use crate::command::{Command, Rules, command_of, source_of};
 use crate::generate::{tell_generated, write_extract};
 use crate::line::{refuse, tell_build, tell_look};
 use crate::status::Refusal;
+use crate::trial::build_generated;
+use crate::trial_line::tell_trial;
 use archive_text::{check_archive, show_tile};
 use build_one::{Stop, Totals, build};
 use std::alloc::Global;
@@ -27,7 +29,8 @@ use tb_outside::{Lane, Sink, Source, Spill};
 /// and use nothing else. Of a build the archive's sink gets nothing before all tiles stand in the spool, so it holds the whole archive
 /// (status 0, and 9 where only the console failed), a prefix of it (8 and 9), or nothing new. Its items stand in the lane's spill as
 /// sorted runs first. `gen` appends its extract to the archive's sink frame after frame and uses nothing else, so that holds the whole
-/// extract (status 0, and 9 where only the console failed), or a prefix.
+/// extract (status 0, and 9 where only the console failed), or a prefix. `trial` builds from an extract that it generates in memory, and
+/// leaves the profile's source and the lane's reader alone.
 pub fn run_one<R: Source, S: Spill, K: Sink>(
     alloc: Global,
     words: &[String],
@@ -60,6 +63,10 @@ pub fn run_one<R: Source, S: Spill, K: Sink>(
             let ended = write_extract(alloc, seed, count, archive);
             tell_generated(console, ended)
         }
+        Some(Command::Trial { seed, count, .. }) => {
+            let ended = build_generated(alloc, seed, count, profile, lane, spool, archive);
+            tell_trial(console, seed, count, ended)
+        }
     }
 }
 
@@ -75,7 +82,7 @@ fn build_by<R: Source, S: Spill, K: Sink>(
 ) -> Result<Totals, Stop>
     requires keyed { IsKeyed (seen_rules rules) }
     requires budget { budget ≤ MOST_BUDGET }
-    ensures answers { BuildAnswers (source_of (seen_rules rules.entry)) budget (one_lane R.seen R.seen S.seen K.seen profile.old lane.old spool.old archive.old)
+    ensures answers { BuildAnswers (source_of (seen_rules rules.entry)) budget 1 (one_lane R.seen R.seen S.seen K.seen profile.old lane.old spool.old archive.old)
         (one_lane R.seen R.seen S.seen K.seen profile.new lane.new spool.new archive.new) result }
     ensures alone { IsAlone (source_of (seen_rules rules.entry)) → profile.new ≡ profile.old }
 {

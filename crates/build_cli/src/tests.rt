@@ -17,6 +17,7 @@ mod maps;
 mod places;
 mod profiles;
 mod relations;
+mod trials;
 mod untold;
 mod ways;
 mod wide;

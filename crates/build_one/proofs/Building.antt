@@ -10,7 +10,7 @@ use Rattle.tile_model.specs.declared.stop.Stop.{Stop}
 use Rattle.tile_model.specs.Needs.{largest, block_needs}
 use Rattle.build_one.specs.declared.found.Found.{Found}
 use Rattle.build_one.specs.Made.{GatherAnswers, GatherCounts, Gathers}
-use Rattle.build_one.proofs.Builds.{AreFramed}
+use Rattle.build_one.specs.Extracts.{AreFramed}
 
 -- the blocks that a scan gave, of which none needs more than the part
 pub framed : (part need : ℕ) (told : Option (List ℕ)) (blocks found : List BlockAt) → IfSome told (λ extract. frames_of extract ≡ Ok found) → blocks ≡ found → need ≡ largest (block_needs blocks) → need ≤ part → AreFramed part told blocks

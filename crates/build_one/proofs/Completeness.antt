@@ -61,5 +61,5 @@ told_by : (told : Option Due) (before after : Objects) (result : Result Totals S
 told_by None before after result none cause is = tt
 told_by (Some due) before after result none cause is = at_due before after result due none cause is
 
-pub complete : (from : ProfileFrom) (budget : ℕ) (before after : Objects) (result : Result Totals Stop) → BuildAnswers from budget before after result → NoneRose before after → IfSome (due_in from budget before) (Complete before result)
-complete from budget before after result answers none = told_by (due_in from budget before) before after result none answers.cause answers.told
+pub complete : (from : ProfileFrom) (budget lanes : ℕ) (before after : Objects) (result : Result Totals Stop) → BuildAnswers from budget lanes before after result → NoneRose before after → IfSome (due_in from budget before) (Complete before result)
+complete from budget lanes before after result answers none = told_by (due_in from budget before) before after result none answers.cause answers.told

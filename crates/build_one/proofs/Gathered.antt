@@ -5,7 +5,7 @@ use Rattle.std.specs.List.Sorted.{IsPermutation}
 use Rattle.tb_types.specs.Counts.{Counted}
 use Rattle.tb_types.specs.declared.damage.Damage.{Damage}
 use Rattle.tb_outside.specs.Source.{SourceSeen}
-use Rattle.tb_outside.specs.Spill.{SpillSeen}
+use Rattle.tb_outside.specs.Spill.{Runs, SpillSeen}
 use Rattle.tb_outside.specs.declared.spill.RunAt.{RunAt}
 use Rattle.tb_outside.specs.declared.spill.SpillErr.{SpillErr}
 use Rattle.tb_outside.specs.declared.spill.SpillErr.TheVariants as spill_errors
@@ -19,6 +19,7 @@ use Rattle.node_store.specs.declared.shaped.Shaped.{Shaped}
 use Rattle.mvt_codec.specs.declared.item.RunItem.{RunItem}
 use Rattle.feature_runs.specs.Entry.{Buffered, entry_of}
 use Rattle.feature_runs.specs.Added.{WereAdded, AreThere}
+use Rattle.feature_runs.specs.Since.{IsSince, KeepsSince}
 use Rattle.feature_runs.specs.Writing.{Frames}
 use Rattle.tile_model.specs.Contents.{Content, contents_at}
 use Rattle.tile_model.specs.Needs.{largest}
@@ -67,7 +68,7 @@ module _ (parts : Parts) (part limit : ℕ) (found : Found) (r r' : SourceSeen) 
 
 -- what all passes read
 module _ (parts : Parts) (part limit : ℕ) (found : Found) (told : Option (List ℕ)) (ways needed : List (Entry units.Unit)) (store : List (Entry Located)) (shapes : List (Entry Shaped)) (s0 s1 s2 s3 : SpillSeen) (b0 b1 b2 : Buffered)
-    (empty : b0 ≡ record { limit = limit; runs = []; entries = [] }) (none : (ended : List (List ℕ)) → WereAdded b0 ended []) (m : AreMembers found.kept.items ways) where
+    (empty : b0 ≡ record { limit = limit; runs = []; entries = [] }) (none : (ended : List (List ℕ)) → WereAdded b0 ended []) (fresh : (start : Runs) (seen : SpillSeen) → seen.runs ≡ Some start → IsSince start seen b0 []) (m : AreMembers found.kept.items ways) where
   abbrev Ones : Type 0
   Ones = Reads (λ needed read. AreNeeded parts ways needed read) found.ways.items told (Ok needed)
 
@@ -120,6 +121,7 @@ module _ (parts : Parts) (part limit : ℕ) (found : Found) (told : Option (List
         sound = whole.ok.sound;
         whole = whole.ok.whole;
         listed = λ runs-told is. subst (λ l. AreThere (record { limit = l; runs = runs; entries = [] }) s3 (map entry_of whole.ok.items)) limit-is (whole.ok.keeps runs-told [] is (none runs-told.ended));
+        since = λ runs-told is. subst (λ l. IsSince runs-told s3 (record { limit = l; runs = runs; entries = [] }) (map entry_of whole.ok.items)) limit-is (whole.ok.since runs-told [] (fresh runs-told s0 is));
       }
 
       pub all-told : Gathers parts part limit told found s0 s3 (Ok runs)
@@ -151,9 +153,9 @@ module _ (parts : Parts) (part limit : ℕ) (found : Found) (r r' : SourceSeen) 
       record { told = told; counts = (faults, h.ok); bytes = bytes; reader_never_falls = le-same r.faults r'.faults faults; spill_never_falls = h.never_falls; kept = h.kept }
 
 -- what a buffer holds is written as its last run
-pub emits-flushed : {A : Type 0} (parts : Parts) (wanted : List RunItem) (s t u : SpillSeen) (b c d : Buffered) (x : A) (r : Result ⊤ SpillErr) → Emits parts wanted s t b c (Ok x) → OnOk r (Flushes t u c d) → OnOk r (KeepsAdded t u c d []) → Frames t u r
-    → Emits parts wanted s u b d r
-emits-flushed parts wanted s t u b c d x (Ok y) h flushed keeps frames = record {
+pub emits-flushed : {A : Type 0} (parts : Parts) (emitted : List RunItem) (s t u : SpillSeen) (b c d : Buffered) (x : A) (r : Result ⊤ SpillErr) → Emits parts emitted s t b c (Ok x) → OnOk r (Flushes t u c d) → OnOk r (KeepsAdded t u c d []) → OnOk r (KeepsSince t u c d []) → Frames t u r
+    → Emits parts emitted s u b d r
+emits-flushed parts emitted s t u b c d x (Ok y) h flushed keeps since frames = record {
   ok = record {
     items = h.ok.items;
     same = h.ok.same;
@@ -163,14 +165,15 @@ emits-flushed parts wanted s t u b c d x (Ok y) h flushed keeps frames = record 
     keeps = λ runs added told were.
         let one = h.ok.keeps runs added told were in
         subst (AreThere d u) (append-nil (added ++ map entry_of h.ok.items)) (keeps one.runs (added ++ map entry_of h.ok.items) one.told one.added_are);
+    since = λ start added is. subst (IsSince start u d) (append-nil (added ++ map entry_of h.ok.items)) (since start (added ++ map entry_of h.ok.items) (h.ok.since start added is));
   };
   frames = frames-on s t u x (Ok y) h.frames frames;
 }
-emits-flushed parts wanted s t u b c d x (Err e) h flushed keeps frames = record { ok = tt; frames = frames-on s t u x (Err e) h.frames frames }
+emits-flushed parts emitted s t u b c d x (Err e) h flushed keeps since frames = record { ok = tt; frames = frames-on s t u x (Err e) h.frames frames }
 
 -- a block isn't loaded behind others
-pub load-frames : (A : Type 0) (parts : Parts) (wanted : List RunItem) (s t : SpillSeen) (b c : Buffered) (stop : PassStop) → NoSpill {A = A} (Err stop) → Adds parts wanted s t b c → Frames s t (as_spilled {A = A} (Err stop))
-load-frames A parts wanted s t b c stop alone h = by stop alone
+pub load-frames : (A : Type 0) (parts : Parts) (emitted : List RunItem) (s t : SpillSeen) (b c : Buffered) (stop : PassStop) → NoSpill {A = A} (Err stop) → Adds parts emitted s t b c → Frames s t (as_spilled {A = A} (Err stop))
+load-frames A parts emitted s t b c stop alone h = by stop alone
   where
     memory : Frames {A = ⊤} s t (Err spill_errors.Memory)
     memory = frames-on s t t tt (Err spill_errors.Memory) h.frames (frames-memory t)
@@ -182,9 +185,9 @@ load-frames A parts wanted s t b c stop alone h = by stop alone
     by pass_stops.Memory alone = memory
 
 -- nor are a block's items added
-pub add-refused : (A : Type 0) (parts : Parts) (wanted more : List RunItem) (s t u : SpillSeen) (b c d : Buffered) (e : SpillErr) → Adds parts wanted s t b c → Emits {A = ⊤} parts more t u c d (Err e) → Frames s u (as_spilled {A = A} (Err (pass_stop_of e)))
-add-refused A parts wanted more s t u b c d spill_errors.Failed h k = frames-on s t u tt (Err spill_errors.Failed) h.frames k.frames
-add-refused A parts wanted more s t u b c d spill_errors.Memory h k = frames-on s t u tt (Err spill_errors.Memory) h.frames k.frames
+pub add-refused : (A : Type 0) (parts : Parts) (emitted more : List RunItem) (s t u : SpillSeen) (b c d : Buffered) (e : SpillErr) → Adds parts emitted s t b c → Emits {A = ⊤} parts more t u c d (Err e) → Frames s u (as_spilled {A = A} (Err (pass_stop_of e)))
+add-refused A parts emitted more s t u b c d spill_errors.Failed h k = frames-on s t u tt (Err spill_errors.Failed) h.frames k.frames
+add-refused A parts emitted more s t u b c d spill_errors.Memory h k = frames-on s t u tt (Err spill_errors.Memory) h.frames k.frames
 
 pub none-read : (A : Type 0) (P : A → List (ℕ × Block) → Type 0) (blocks : List BlockAt) (told : Option (List ℕ)) (e : SpillErr) → Reads P blocks told (Err (pass_stop_of e))
 none-read A P blocks told spill_errors.Failed = tt

@@ -24,6 +24,7 @@ use Rattle.node_store.specs.declared.located.Located.{Located}
 use Rattle.node_store.specs.Order.{located_join, shaped_join}
 use Rattle.tile_model.specs.Contents.{Content, header, elements, unread, contents_at}
 use Rattle.tile_model.specs.Extract.{all_nodes, all_ways, all_refs, features_of, is_kept, is_some_list, location_of, shape_of, needed_refs}
+use Rattle.tile_model.specs.Loads.{has_nodes, has_ways}
 use Rattle.tile_model.specs.Map.{block_in, blocks_in}
 use Rattle.tile_model.specs.Points.{node_features, block_points, points_of}
 use Rattle.tile_model.specs.Relations.{way_ids, relation_shape, relation_origin, relation_features, relations_of}
@@ -36,7 +37,7 @@ use Rattle.pass_shapes.proofs.Shaping.{kept-shaped, members-shaped, same-needs}
 use Rattle.pass_shapes.specs.Kept.{kept_features, needs_of}
 use Rattle.pass_survey.specs.Kept.{kept_of, kept_in, all_kept}
 use Rattle.build_one.specs.declared.found.Found.{Found}
-use Rattle.build_one.specs.Found.{HasSurveyed, has_nodes, has_ways}
+use Rattle.build_one.specs.Found.{HasSurveyed}
 use Rattle.tb_types.specs.Needs.{relation_need}
 use Rattle.member_sets.specs.declared.kept.KeptRelation.{KeptRelation}
 use Rattle.node_store.specs.declared.shaped.Shaped.{Shaped}

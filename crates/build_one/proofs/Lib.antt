@@ -5,6 +5,8 @@ pub mod BlockNeeds
 pub mod Boxes
 pub mod Building
 pub mod Builds
+pub mod DueBy
+pub mod ItemsDue
 pub mod Causes
 pub mod Completeness
 pub mod Loading
@@ -25,3 +27,6 @@ pub mod WorkedArchives
 pub mod WorkedRows
 pub mod Kept
 pub mod Runs
+pub mod RunsDue
+pub mod LoadCounts
+pub mod Logs

@@ -1,5 +1,7 @@
 -- The map that is written is the one that is due.
-use Rattle.std.proofs.Common.{◌≡◌, ℕ, zero, suc, ◌≤◌, ◌<◌, ◌^◌, Option, None, Some, IfSome, IsSome, option_and_then, Result, Ok, Err, List, [], ◌∷◌, length, refl, sym, ap, subst, ◌∙◌, arith, inl, inr}
+use Rattle.std.proofs.Common.{◌≡◌, ℕ, zero, suc, ◌≤◌, ◌<◌, ◌^◌, Option, None, Some, IfSome, IsSome, option_and_then, Result, Ok, Err, List, [], ◌∷◌, length, map, refl, sym, ap, subst, ◌∙◌, arith, inl, inr}
+use Rattle.std.specs.List.{AllByRecursion}
+use Rattle.std.proofs.lemmas.List.Elements.{recursion_from_All}
 use Rattle.tb_types.specs.declared.location.Bounds.{Bounds}
 use Rattle.tb_types.specs.declared.trouble.Stage.TheVariants as stages
 use Rattle.tb_types.specs.declared.trouble.Whom.{Whom}
@@ -9,6 +11,8 @@ use Rattle.tb_outside.specs.Sink.{SinkSeen, with_more, GrowsByPrefix}
 use Rattle.profile_rules.specs.declared.parts.Parts.{Parts}
 use Rattle.profile_rules.specs.Sound.{IsSound}
 use Rattle.mvt_codec.specs.declared.item.RunItem.{RunItem}
+use Rattle.mvt_codec.specs.Grammar.{tile_of}
+use Rattle.mvt_codec.specs.Groups.{layers_of}
 use Rattle.pmtiles_dirs.specs.declared.meta.Meta.{Meta}
 use Rattle.pmtiles_dirs.specs.declared.totals.Totals.{Totals}
 use Rattle.pmtiles_dirs.specs.Archive.{archive_text}
@@ -33,10 +37,10 @@ use Rattle.tile_model.specs.Extract.{features_of}
 use Rattle.tile_model.specs.Map.{blocks_in, groups_of, layer_names, meta_of, tile_from, tiles_from}
 use Rattle.tile_model.specs.Needs.{first_over}
 use Rattle.tile_model.specs.Objects.{if_told}
-use Rattle.build_one.specs.Answers.{OnBuilt, IfTold, IsDue, MayBuild}
+use Rattle.build_one.specs.Answers.{OnBuilt, IfTold, IsDue, MayBuild, AreDecoded}
 use Rattle.build_one.specs.Made.{IsDueBy, IsKnown, MapWritten, runs_named}
 use Rattle.build_one.specs.Stages.{stop_of_tiles, stop_of_archive}
-use Rattle.build_one.specs.Writing.{Stays, MapAnswers}
+use Rattle.build_one.specs.Writing.{Stays, IsDecoded, MapAnswers}
 use Rattle.build_one.proofs.Backs.{few-built}
 use Rattle.build_one.proofs.Kept.{kept-self, kept-both}
 
@@ -83,6 +87,12 @@ may-build : (o : Option ℕ) (built : Built) → MayBuild (if_small o built)
 may-build None built = tt
 may-build (Some need) built = refl
 
+-- tiles whose items are decoded are those of the groups
+decoded-each : (names : List (List ℕ)) (groups : List (ℕ × List RunItem)) → AllByRecursion (IsDecoded names) groups
+    → map (λ (tile : Tile). tile_of tile.bytes) (tiles_from names groups) ≡ map (λ (group : ℕ × List RunItem). Ok (layers_of names group.1)) groups
+decoded-each names [] h = refl
+decoded-each names (group ∷ groups) h = λ i. h.0 i ∷ decoded-each names groups h.1 i
+
 -- a count that can't rise
 no-rise : Rose 0 0 → ⊥
 no-rise rose = absurd (omega (arith, rose))
@@ -98,8 +108,9 @@ map-early due s o k = record {
   told = any-due due;
   written = refl;
   back = tt;
+  decoded = tt;
   counts = ((refl, refl), refl);
-  spill_kept = kept-self s.runs;
+  spill_runs = refl;
   kept = kept-self o.runs;
   spill_never_falls = omega arith;
   spool_never_falls = omega arith;
@@ -117,9 +128,6 @@ module _ {R : Type 0} (parts : Parts) (part : ℕ) (box : Option Bounds) (sound 
   spill-runs : s'.runs ≡ s.runs
   spill-runs = let e = stays.spills in cc
 
-  spill-kept : KeepsEnded s.runs s'.runs
-  spill-kept = subst (KeepsEnded s.runs) (sym spill-runs) (kept-self s.runs)
-
   still : NoneRose before after → (s'.faults ≡ s.faults) × (mid.faults ≡ o.faults)
   still none = (none (stores.Lane 0), none stores.Spool)
 
@@ -132,15 +140,16 @@ module _ {R : Type 0} (parts : Parts) (part : ℕ) (box : Option Bounds) (sound 
   tile-due need over d by =
       both-if (told_of s o) (groups ≡ groups_of parts by.contents) (d ≡ Err (stops.Budget stages.Tile need)) by.same
       (tell-if readers s o (groups ≡ groups_of parts by.contents → d ≡ Err (stops.Budget stages.Tile need)) (λ tell runs is same.
-      by.is ∙ ap (λ n. if_small n (built_of (meta_of parts (first_box by.contents)) (tiles_from (layer_names parts) (groups_of parts by.contents)))) (ap (first_over part) (sym same) ∙ over tell)))
+      by.is ∙ ap (λ n. if_small n (built_of (meta_of parts (first_box by.contents)) (layer_names parts) (groups_of parts by.contents))) (ap (first_over part) (sym same) ∙ over tell)))
 
   spill-refused : (store : Store) (k : SinkSeen) → OnlyRose before after store → MapWritten due s s' o mid k k (Err (stops.Spill (whom_of store)))
   spill-refused (stores.Lane zero) k only = record {
     told = any-due due;
     written = inl refl;
     back = tt;
+    decoded = tt;
     counts = (refl, only.rose, only.others stores.Spool (λ e. absurd cc), refl);
-    spill_kept = spill-kept;
+    spill_runs = spill-runs;
     kept = stays.spool;
     spill_never_falls = only.never_falls;
     spool_never_falls = same-le o.faults mid.faults (only.others stores.Spool (λ e. absurd cc));
@@ -151,8 +160,9 @@ module _ {R : Type 0} (parts : Parts) (part : ℕ) (box : Option Bounds) (sound 
     told = any-due due;
     written = inl refl;
     back = tt;
+    decoded = tt;
     counts = (only.others (stores.Lane 0) (λ e. absurd cc), only.rose, refl);
-    spill_kept = spill-kept;
+    spill_runs = spill-runs;
     kept = stays.spool;
     spill_never_falls = same-le s.faults s'.faults (only.others (stores.Lane 0) (λ e. absurd cc));
     spool_never_falls = only.never_falls;
@@ -164,8 +174,9 @@ module _ {R : Type 0} (parts : Parts) (part : ℕ) (box : Option Bounds) (sound 
     told = any-due due;
     written = refl;
     back = tt;
+    decoded = tt;
     counts = (still counts, refl, named store none);
-    spill_kept = spill-kept;
+    spill_runs = spill-runs;
     kept = stays.spool;
     spill_never_falls = same-le s.faults s'.faults (still counts).0;
     spool_never_falls = same-le o.faults mid.faults (still counts).1;
@@ -184,8 +195,9 @@ module _ {R : Type 0} (parts : Parts) (part : ℕ) (box : Option Bounds) (sound 
     told = if-due parts part (told_of s o) groups box due (λ d. IfTold (told_of s o) (d ≡ Err (stops.Budget stages.Tile need))) known (tile-due need a.ends.1);
     written = refl;
     back = tt;
+    decoded = tt;
     counts = (still a.ends.0, refl);
-    spill_kept = spill-kept;
+    spill_runs = spill-runs;
     kept = stays.spool;
     spill_never_falls = same-le s.faults s'.faults (still a.ends.0).0;
     spool_never_falls = same-le o.faults mid.faults (still a.ends.0).1;
@@ -195,8 +207,9 @@ module _ {R : Type 0} (parts : Parts) (part : ℕ) (box : Option Bounds) (sound 
     told = any-due due;
     written = refl;
     back = tt;
+    decoded = tt;
     counts = (still a.ends, refl);
-    spill_kept = spill-kept;
+    spill_runs = spill-runs;
     kept = stays.spool;
     spill_never_falls = same-le s.faults s'.faults (still a.ends).0;
     spool_never_falls = same-le o.faults mid.faults (still a.ends).1;
@@ -210,23 +223,23 @@ module _ {R : Type 0} (parts : Parts) (part : ℕ) (box : Option Bounds) (sound 
     tiles = tiles_from (layer_names parts) groups
 
     -- what is due, where both tell
-    is-built : (d : Due) (by : IsDueBy parts part (told_of s o) groups box d) → IfTold (told_of s o) (d ≡ Ok (built_of w.meta tiles))
+    is-built : (d : Due) (by : IsDueBy parts part (told_of s o) groups box d) → IfTold (told_of s o) (d ≡ Ok (built_of w.meta (layer_names parts) groups))
     is-built d by =
-        both-if (told_of s o) (groups ≡ groups_of parts by.contents) (d ≡ Ok (built_of w.meta tiles)) by.same
-        (tell-if readers s o (groups ≡ groups_of parts by.contents → d ≡ Ok (built_of w.meta tiles)) (λ tell runs is same.
+        both-if (told_of s o) (groups ≡ groups_of parts by.contents) (d ≡ Ok (built_of w.meta (layer_names parts) groups)) by.same
+        (tell-if readers s o (groups ≡ groups_of parts by.contents → d ≡ Ok (built_of w.meta (layer_names parts) groups)) (λ tell runs is same.
         let metas : w.meta ≡ meta_of parts (first_box by.contents) = a.ok.meta_is ∙ (meta_is ∙ ap (meta_of parts) by.box_is) in
         by.is ∙ (ap (λ gs. due_of_groups part (meta_of parts (first_box by.contents)) (layer_names parts) gs) (sym same)
-        ∙ (ap (λ m. due_of_groups part m (layer_names parts) groups) (sym metas) ∙ ap (λ n. if_small n (built_of w.meta tiles)) (a.ends.1 tell)))))
+        ∙ (ap (λ m. due_of_groups part m (layer_names parts) groups) (sym metas) ∙ ap (λ n. if_small n (built_of w.meta (layer_names parts) groups)) (a.ends.1 tell)))))
 
     -- what holds of the archive that is due, where both tell
-    on-built : (P : Built → Type 0) → (AllTell before → (runs : Runs) → o.runs ≡ Some runs → P (built_of w.meta tiles)) → IfTold (told_of s o) (IfSome due (λ d. OnBuilt d P))
+    on-built : (P : Built → Type 0) → (AllTell before → (runs : Runs) → o.runs ≡ Some runs → P (built_of w.meta (layer_names parts) groups)) → IfTold (told_of s o) (IfSome due (λ d. OnBuilt d P))
     on-built P f = by-due due known
       where
         by-due : (due : Option Due) → IsKnown parts part (told_of s o) groups box due → IfTold (told_of s o) (IfSome due (λ d. OnBuilt d P))
         by-due None known = tell-if readers s o (Unit {0}) (λ tell runs is. tt)
         by-due (Some d) known =
-            both-if (told_of s o) (d ≡ Ok (built_of w.meta tiles)) (OnBuilt d P) (is-built d known)
-            (tell-if readers s o (d ≡ Ok (built_of w.meta tiles) → OnBuilt d P) (λ tell runs is same. subst (λ x. OnBuilt x P) (sym same) (f tell runs is)))
+            both-if (told_of s o) (d ≡ Ok (built_of w.meta (layer_names parts) groups)) (OnBuilt d P) (is-built d known)
+            (tell-if readers s o (d ≡ Ok (built_of w.meta (layer_names parts) groups) → OnBuilt d P) (λ tell runs is same. subst (λ x. OnBuilt x P) (sym same) (f tell runs is)))
 
     few : (d : Due) (by : IsDueBy parts part (told_of s o) groups box d) → groups ≡ groups_of parts by.contents → length (entries_of tiles) < 2 ^ 35
     few d by same = subst (λ gs. length (entries_of (tiles_from (layer_names parts) gs)) < 2 ^ 35) (sym same) (few-built (features_of parts (blocks_in by.contents)) parts.min parts.max (tile_from (layer_names parts)) sound.ordered sound.last)
@@ -247,23 +260,24 @@ module _ {R : Type 0} (parts : Parts) (part : ℕ) (box : Option Bounds) (sound 
     read-again : (totals : Totals) → FinishAnswers w mid o' k k' (Ok totals) → (due : Option Due) → IsKnown parts part (told_of s o) groups box due → IfTold (told_of s o) (IfSome due (λ d. OnBuilt d (λ built. read_back built.bytes ≡ Some built.tiles)))
     read-again totals f None known = tell-if readers s o (Unit {0}) (λ tell runs is. tt)
     read-again totals f (Some d) by =
-        both-if (told_of s o) (d ≡ Ok (built_of w.meta tiles)) (OnBuilt d (λ built. read_back built.bytes ≡ Some built.tiles)) (is-built d by)
-        (both-if (told_of s o) (groups ≡ groups_of parts by.contents) (d ≡ Ok (built_of w.meta tiles) → OnBuilt d (λ built. read_back built.bytes ≡ Some built.tiles)) by.same
-        (tell-if readers s o (groups ≡ groups_of parts by.contents → d ≡ Ok (built_of w.meta tiles) → OnBuilt d (λ built. read_back built.bytes ≡ Some built.tiles)) (λ tell runs is same due-is.
+        both-if (told_of s o) (d ≡ Ok (built_of w.meta (layer_names parts) groups)) (OnBuilt d (λ built. read_back built.bytes ≡ Some built.tiles)) (is-built d by)
+        (both-if (told_of s o) (groups ≡ groups_of parts by.contents) (d ≡ Ok (built_of w.meta (layer_names parts) groups) → OnBuilt d (λ built. read_back built.bytes ≡ Some built.tiles)) by.same
+        (tell-if readers s o (groups ≡ groups_of parts by.contents → d ≡ Ok (built_of w.meta (layer_names parts) groups) → OnBuilt d (λ built. read_back built.bytes ≡ Some built.tiles)) (λ tell runs is same due-is.
         subst (λ x. OnBuilt x (λ built. read_back built.bytes ≡ Some built.tiles)) (sym due-is) (let h = a.ok.wrote tell runs is in f.back h.runs tiles h.told h.wrote (few d by same)))))
 
     map-ok : (totals : Totals) → FinishAnswers w mid o' k k' (Ok totals) → MapWritten due s s' o o' k k' (Ok totals)
     map-ok totals f = record {
       told = if-due parts part (told_of s o) groups box due (IsDue (told_of s o) (Ok totals)) known (λ d by. (
-        subst MayBuild (sym by.is) (may-build (first_over part (groups_of parts by.contents)) (built_of (meta_of parts (first_box by.contents)) (tiles_from (layer_names parts) (groups_of parts by.contents)))),
-        both-if (told_of s o) (d ≡ Ok (built_of w.meta tiles)) (OnBuilt d (λ built. totals ≡ built.totals)) (is-built d by)
-            (tell-if readers s o (d ≡ Ok (built_of w.meta tiles) → OnBuilt d (λ built. totals ≡ built.totals)) (λ tell runs is same.
+        subst MayBuild (sym by.is) (may-build (first_over part (groups_of parts by.contents)) (built_of (meta_of parts (first_box by.contents)) (layer_names parts) (groups_of parts by.contents))),
+        both-if (told_of s o) (d ≡ Ok (built_of w.meta (layer_names parts) groups)) (OnBuilt d (λ built. totals ≡ built.totals)) (is-built d by)
+            (tell-if readers s o (d ≡ Ok (built_of w.meta (layer_names parts) groups) → OnBuilt d (λ built. totals ≡ built.totals)) (λ tell runs is same.
             subst (λ x. OnBuilt x (λ built. totals ≡ built.totals)) (sym same) (let h = a.ok.wrote tell runs is in f.totals h.runs tiles h.told h.wrote))),
       ));
       written = on-built (λ built. k'.bytes ≡ with_more k.bytes built.bytes) (prefix-told (Ok totals) f);
       back = read-again totals f due known;
+      decoded = on-built AreDecoded (λ tell runs is. decoded-each (layer_names parts) groups (recursion_from_All (IsDecoded (layer_names parts)) groups (a.ok.decoded tell)));
       counts = (((still a.ends.0).0, f.counts.0 ∙ (still a.ends.0).1), f.counts.1);
-      spill_kept = spill-kept;
+      spill_runs = spill-runs;
       kept = both-kept (Ok totals) f;
       spill_never_falls = spill-up (Ok totals) f;
       spool_never_falls = spool-up (Ok totals) f;
@@ -276,8 +290,9 @@ module _ {R : Type 0} (parts : Parts) (part : ℕ) (box : Option Bounds) (sound 
       told = any-due due;
       written = f.counts.1;
       back = tt;
+      decoded = tt;
       counts = (((still a.ends.0).0, ap (λ (y : SpillSeen). y.faults) f.counts.0 ∙ (still a.ends.0).1), f.counts.1);
-      spill_kept = spill-kept;
+      spill_runs = spill-runs;
       kept = both-kept (Err finish_errors.Memory) f;
       spill_never_falls = spill-up (Err finish_errors.Memory) f;
       spool_never_falls = spool-up (Err finish_errors.Memory) f;
@@ -287,8 +302,9 @@ module _ {R : Type 0} (parts : Parts) (part : ℕ) (box : Option Bounds) (sound 
       told = any-due due;
       written = inr (on-built (λ built. GrowsByPrefix k.bytes k'.bytes built.bytes) (prefix-told (Err finish_errors.Spill) f));
       back = tt;
+      decoded = tt;
       counts = ((still a.ends.0).0, subst (λ n. Rose n o'.faults) (still a.ends.0).1 f.counts.0, f.counts.1);
-      spill_kept = spill-kept;
+      spill_runs = spill-runs;
       kept = both-kept (Err finish_errors.Spill) f;
       spill_never_falls = spill-up (Err finish_errors.Spill) f;
       spool_never_falls = spool-up (Err finish_errors.Spill) f;
@@ -298,8 +314,9 @@ module _ {R : Type 0} (parts : Parts) (part : ℕ) (box : Option Bounds) (sound 
       told = any-due due;
       written = on-built (λ built. GrowsByPrefix k.bytes k'.bytes built.bytes) (prefix-told (Err finish_errors.Sink) f);
       back = tt;
+      decoded = tt;
       counts = (((still a.ends.0).0, f.counts.0 ∙ (still a.ends.0).1), f.counts.1);
-      spill_kept = spill-kept;
+      spill_runs = spill-runs;
       kept = both-kept (Err finish_errors.Sink) f;
       spill_never_falls = spill-up (Err finish_errors.Sink) f;
       spool_never_falls = spool-up (Err finish_errors.Sink) f;

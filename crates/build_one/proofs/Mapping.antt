@@ -1,5 +1,5 @@
 -- The tiles of runs: a merge is begun, and its groups are written.
-use Rattle.std.proofs.Common.{◌≡◌, ℕ, ◌≤◌, Option, None, Some, Result, Ok, Err, List, [], ◌∷◌, length, map, refl, sym, ap, subst, ◌∙◌}
+use Rattle.std.proofs.Common.{◌≡◌, ℕ, ◌≤◌, Option, None, Some, Result, Ok, Err, List, [], ◌∷◌, length, map, All, refl, sym, ap, subst, ◌∙◌}
 use Rattle.std.specs.Prelude.{⊤}
 use Rattle.std.specs.List.{AllByRecursion}
 use Rattle.std.proofs.lemmas.List.{length-map}
@@ -22,7 +22,7 @@ use Rattle.run_merge.specs.Objects.{Objects, AllTell, Keeps, NoneRose, spill_of}
 use Rattle.run_merge.proofs.ObjectSteps.{kept_told, none_trans, only_after, tell_still}
 use Rattle.tile_model.specs.Map.{layer_names, tiles_from}
 use Rattle.tile_model.specs.Needs.{first_over}
-use Rattle.build_one.specs.Writing.{AreShort, all_groups, HasWrote, Writes, Ends, Stays, TilesAnswers, MapAnswers}
+use Rattle.build_one.specs.Writing.{AreShort, all_groups, HasWrote, IsDecoded, Writes, Ends, Stays, TilesAnswers, MapAnswers}
 use Rattle.build_one.proofs.Kept.{kept-both, kept-of}
 
 -- each layer has its name
@@ -72,6 +72,7 @@ module _ {R : Type 0} (part : ℕ) (o n n' : Objects R) (keeps : Keeps o n) (cou
       ok = record {
         meta_is = t.meta ∙ meta-is;
         stands = t.stands;
+        decoded = λ tell. subst (λ ns. All (IsDecoded ns) (all_groups o runs)) is (subst (All (IsDecoded names)) (started.groups tell) (t.decoded (tell_still o n keeps tell)));
         wrote = λ tell. λ rs rs-is. by rs tell n.spool.runs refl (subst (λ (x : Option Runs). buffers.KeepsEnded x n.spool.runs) rs-is keeps.spool);
       };
     }

@@ -7,10 +7,12 @@ use Rattle.tb_outside.specs.Source.{SourceSeen}
 use Rattle.pbf_blobs.specs.declared.block.BlockAt.{BlockAt}
 use Rattle.osm_elements.specs.declared.element.Block.{Block}
 use Rattle.tile_model.specs.Contents.{Content, elements, content_at, contents_at, with_later}
+use Rattle.tile_model.specs.Loads.{whole, Logs}
 use Rattle.build_one.specs.declared.stop.PassStop.{PassStop}
 use Rattle.build_one.specs.declared.stop.PassStop.TheVariants as stops
 use Rattle.build_one.specs.Found.{joined, IsOfElements}
 use Rattle.build_one.specs.Passes.{as_content, Loads, Reads}
+use Rattle.build_one.proofs.Logs.{logs-none, logs-next}
 use Rattle.build_one.proofs.Surveying.{any_told, map_told, both_told}
 use Rattle.build_one.proofs.Takes.{contents-next}
 
@@ -33,19 +35,21 @@ contents-damage extract (x ∷ xs) rest b damage h is =
 pub record Passing {A : Type 0} (P : A → List (ℕ × Block) → Type 0) (blocks : List BlockAt) (old now : SourceSeen) (i : ℕ) (x : A) : Type 0 where
   pub bytes : now.bytes ≡ old.bytes
   pub faults : now.faults ≡ old.faults
+  pub log : Logs old now (map whole (take i blocks))
   pub read : List (ℕ × Block)
   pub done : P x read
   pub told : IfSome old.bytes (λ extract. contents_at extract (take i blocks) ≡ Ok (map as_content read))
 
 module _ {A : Type 0} (P : A → List (ℕ × Block) → Type 0) (blocks : List BlockAt) where
   pub passing-start : (s : SourceSeen) (x : A) → P x [] → Passing P blocks s s 0 x
-  passing-start s x h = record { bytes = refl; faults = refl; read = []; done = h; told = any_told s.bytes (λ extract. contents_at extract [] ≡ Ok []) (λ extract. refl) }
+  passing-start s x h = record { bytes = refl; faults = refl; log = logs-none s; read = []; done = h; told = any_told s.bytes (λ extract. contents_at extract [] ≡ Ok []) (λ extract. refl) }
 
   pub passing-next : (old mid new : SourceSeen) (i : ℕ) (d : BlockAt) (x y : A) (block : Block) → i < length blocks → Passing P blocks old mid i x → IfSome mid.bytes (λ extract. Loads extract (get_or blocks i d) (Ok block))
-      → new.bytes ≡ mid.bytes → new.faults ≡ mid.faults → ((read : List (ℕ × Block)) → P x read → P y (read ++ ((get_or blocks i d).no, block) ∷ [])) → Passing P blocks old new (i + 1) y
-  passing-next old mid new i d x y block more p loads bytes faults step = record {
+      → new.bytes ≡ mid.bytes → new.faults ≡ mid.faults → Logs mid new (whole (get_or blocks i d) ∷ []) → ((read : List (ℕ × Block)) → P x read → P y (read ++ ((get_or blocks i d).no, block) ∷ [])) → Passing P blocks old new (i + 1) y
+  passing-next old mid new i d x y block more p loads bytes faults log step = record {
     bytes = bytes ∙ p.bytes;
     faults = faults ∙ p.faults;
+    log = logs-next blocks i d old mid new more p.log log;
     read = p.read ++ ((get_or blocks i d).no, block) ∷ [];
     done = step p.read p.done;
     told = both_told old.bytes
@@ -65,6 +69,10 @@ module _ {A : Type 0} (P : A → List (ℕ × Block) → Type 0) (blocks : List 
     map_told old.bytes (λ extract. contents_at extract (take i blocks) ≡ Ok (map as_content p.read)) (λ extract. contents_at extract blocks ≡ Ok (map as_content p.read))
         (λ extract h. ap (contents_at extract) (sym (take_all i blocks all)) ∙ h) p.told,
   )
+
+  -- all bodies were loaded
+  pub passing-logs : (old now : SourceSeen) (i : ℕ) (x : A) → length blocks ≤ i → Passing P blocks old now i x → Logs old now (map whole blocks)
+  passing-logs old now i x all p = subst (λ bs. Logs old now (map whole bs)) (take_all i blocks all) p.log
 
   pub passing-refused : {B : Type 0} (Q : B → List (ℕ × Block) → Type 0) (old mid : SourceSeen) (i : ℕ) (d : BlockAt) (x : A) (stop : PassStop) → i < length blocks → Passing P blocks old mid i x → IfSome mid.bytes (λ extract. Loads extract (get_or blocks i d) (Err stop))
       → Reads Q blocks old.bytes (Err stop)

@@ -70,10 +70,10 @@ module _ (layers : ℕ) where
     pub each : IsItemOf layers item
     pub is : e ≡ entry_of item
 
-  abbrev taken : List Entry → List RunItem
+  abbrev pub taken : List Entry → List RunItem
   taken es = filter_map read_of es
 
-  good-items : (items : List RunItem) → AllByRecursion (IsItemOf layers) items → AllByRecursion IsGood (map entry_of items)
+  pub good-items : (items : List RunItem) → AllByRecursion (IsItemOf layers) items → AllByRecursion IsGood (map entry_of items)
   good-items [] h = tt
   good-items (x ∷ xs) h = (record { item = x; each = h.0; is = refl }, good-items xs h.1)
 
@@ -89,7 +89,7 @@ module _ (layers : ℕ) where
   good-taken [] h = tt
   good-taken (e ∷ es) h = subst (λ o. AllByRecursion (IsItemOf layers) (cons_option o (taken es))) (sym (read-is e h.0)) (h.0.each, good-taken es h.1)
 
-  taken-again : (items : List RunItem) → AllByRecursion (IsItemOf layers) items → taken (map entry_of items) ≡ items
+  pub taken-again : (items : List RunItem) → AllByRecursion (IsItemOf layers) items → taken (map entry_of items) ≡ items
   taken-again [] h = refl
   taken-again (x ∷ xs) h = ap (λ o. cons_option o (taken (map entry_of xs))) (read-good x h.0.is h.0.types) ∙ ap (λ ys. x ∷ ys) (taken-again xs h.1)
 
@@ -97,11 +97,11 @@ module _ (layers : ℕ) where
   bytes-of [] = refl
   bytes-of (x ∷ xs) = ap (λ bytes. item_text x ++ bytes) (bytes-of xs)
 
-  bytes-taken : (es : List Entry) → AllByRecursion IsGood es → bytes_of es ≡ items_bytes (taken es)
+  pub bytes-taken : (es : List Entry) → AllByRecursion IsGood es → bytes_of es ≡ items_bytes (taken es)
   bytes-taken es h = ap bytes_of (sym (again es h)) ∙ bytes-of (taken es)
 
   -- entries in order are items in order
-  in-order : (xs : List RunItem) → AreSorted (map entry_of xs) → AreInOrder xs
+  pub in-order : (xs : List RunItem) → AreSorted (map entry_of xs) → AreInOrder xs
   unfolding item_rank
   in-order xs up = λ k d low le.
       let count = length-map xs entry_of in
@@ -201,7 +201,7 @@ module _ {R : Type 0} (parts : Parts) (limit : ℕ) (readers : List R) (s t o : 
   abbrev seen : Objects R
   seen = seen_by readers t o
 
-  each-item : AllByRecursion (IsItemOf layers) ran.items
+  pub each-item : AllByRecursion (IsItemOf layers) ran.items
   each-item = both ran.items (recursion_from_All (IsSoundItem layers) ran.items ran.sound) (recursion_from_All IsItem ran.items ran.whole)
     where
       both : (xs : List RunItem) → AllByRecursion (IsSoundItem layers) xs → AllByRecursion IsItem xs → AllByRecursion (IsItemOf layers) xs

@@ -15,10 +15,11 @@ use Rattle.osm_elements.specs.Header.{is_valid}
 use Rattle.profile_rules.specs.declared.parts.Parts.{Parts}
 use Rattle.tile_model.specs.Bounds.{boxes_in}
 use Rattle.tile_model.specs.Contents.{Content, header, elements, unread, header_in, block_in, content_of, in_block, content_at, contents_at, with_later, body_at, IsBody}
+use Rattle.tile_model.specs.Loads.{has_nodes, has_ways}
 use Rattle.tile_model.specs.Map as maps
 use Rattle.pass_survey.specs.Kept.{kept_in, all_kept}
 use Rattle.build_one.specs.declared.found.Found.{Found}
-use Rattle.build_one.specs.Found.{Holds, joined, has_nodes, has_ways, with_if, Notes, Steps, IsReady, IsReadyBox, IsOfElements}
+use Rattle.build_one.specs.Found.{Holds, joined, with_if, Notes, Steps, IsReady, IsReadyBox, IsOfElements}
 use Rattle.build_one.proofs.Boxes.{some-written}
 
 with_later-joined : (c : Result Content Damage) (later : Result (List Content) Damage) (last : Result Content Damage) → with_later c (joined later last) ≡ joined (with_later c later) last

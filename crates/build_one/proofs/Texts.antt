@@ -6,7 +6,7 @@ use Rattle.std.proofs.lemmas.Grind.{flat_map-append}
 use Rattle.std.proofs.lemmas.List.Elements.{recursion_from_All, All-from_recursion, All-weaker}
 use Rattle.tb_types.specs.Needs.{group_need}
 use Rattle.tb_types.specs.declared.attribute.Attr.{Attr}
-use Rattle.mvt_codec.specs.Items.{items_bytes, IsItem, IsNamed}
+use Rattle.mvt_codec.specs.Items.{items_bytes, IsItem, IsNamed, Fits}
 use Rattle.mvt_codec.specs.Value.{IsWritable}
 use Rattle.mvt_codec.proofs.TileSizes.{tiles_are_small}
 use Rattle.run_merge.specs.Items.{IsItemOf}
@@ -79,6 +79,12 @@ short-group names part bytes items short small each is fits =
 -- what the encoder asks for
 pub in-layers : (names : List (List ℕ)) (items : List RunItem) → All (IsItemOf (length names)) items → All (λ item. item.key.layer < length names) items
 in-layers names items each = All-weaker (IsItemOf (length names)) (λ item. item.key.layer < length names) (λ item h. h.layer) items each
+
+pub items-are : (names : List (List ℕ)) (items : List RunItem) → All (IsItemOf (length names)) items → All IsItem items
+items-are names items each = All-weaker (IsItemOf (length names)) IsItem (λ item h. h.is) items each
+
+pub items-fit : (names : List (List ℕ)) (items : List RunItem) → All (IsItemOf (length names)) items → All Fits items
+items-fit names items each = All-weaker (IsItemOf (length names)) Fits (λ item h. h.types) items each
 
 named-writable : (attributes : List Attr) → AllByRecursion IsNamed attributes → AllByRecursion (λ (a : Attr). IsWritable a.value) attributes
 named-writable [] h = tt

@@ -1,9 +1,9 @@
 -- The walk over the groups of a merge: the tiles written so far, and the groups that are left.
-use Rattle.std.proofs.Common.{◌≡◌, ℕ, ◌-◌, ◌<◌, ◌≤◌, ◌^◌, nat_lt, Bool, true, false, cond, min, Option, None, Some, IfSome, Ok, Err, List, [], ◌∷◌, ◌++◌, length, refl, sym, ap, subst, ◌∙◌, arith, append_assoc}
+use Rattle.std.proofs.Common.{◌≡◌, ℕ, ◌-◌, ◌<◌, ◌≤◌, ◌^◌, nat_lt, Bool, true, false, cond, min, Option, None, Some, IfSome, Ok, Err, List, [], ◌∷◌, ◌++◌, length, refl, sym, ap, subst, ◌∙◌, arith, append_assoc, All}
 use Rattle.std.specs.Prelude.{⊤}
 use Rattle.std.proofs.lemmas.Bool.{lt-ltb, le-ltb}
 use Rattle.std.proofs.lemmas.List.{append-nil, map-append, length-append}
-use Rattle.std.proofs.lemmas.List.Elements.{All-from_recursion}
+use Rattle.std.proofs.lemmas.List.Elements.{All-from_recursion, All-nil, All-cons, All-append}
 use Rattle.std.proofs.lemmas.List.Concat.{flat_map-cons}
 use Rattle.std.specs.List.{AllByRecursion}
 use Rattle.mvt_codec.proofs.ItemLengths.{item_len}
@@ -28,7 +28,7 @@ use Rattle.run_merge.specs.Objects.{Objects, AllTell, Keeps, NoneRose, spill_of}
 use Rattle.run_merge.proofs.ObjectSteps.{keeps_refl, keeps_trans, keeps_same, keeps_spool, none_refl, none_trans, none_same, none_spool, only_after, only_spool, tell_still, kept_told, there_still, told_still, groups_still}
 use Rattle.tile_model.specs.Map.{tile_from, tiles_from}
 use Rattle.tile_model.specs.Needs.{tile_need, first_over}
-use Rattle.build_one.specs.Writing.{HasWrote, Writes, TileCounts, TileAnswers, Ends, Stays, TilesAnswers}
+use Rattle.build_one.specs.Writing.{HasWrote, IsDecoded, Writes, TileCounts, TileAnswers, Ends, Stays, TilesAnswers}
 use Rattle.build_one.proofs.Kept.{of-kept, kept-of, kept-both}
 
 -- ---- the first that is above the part
@@ -100,6 +100,7 @@ module _ {R : Type 0} (names : List (List ℕ)) (part : ℕ) (merge : Merging) (
     pub all : AllTell before → groups ≡ done ++ left_groups now (cursors_of m.readers)
     pub small : AllTell before → first_over part done ≡ None
     pub wrote : AllTell before → (tiles : List Tile) → Writes old before.spool.runs before.spool.runs tiles → Writes w before.spool.runs now.spool.runs (tiles ++ tiles_from names done)
+    pub decoded : All (IsDecoded names) done
 
   pub walk-start : AreThere before merge.readers → AreTold before merge.layers merge.readers → AreFrom (next_id old) (cursors_of merge.readers) → RunsStand old before.spool.runs → Walk merge old before
   walk-start there told from stand = record {
@@ -115,6 +116,7 @@ module _ {R : Type 0} (names : List (List ℕ)) (part : ℕ) (merge : Merging) (
     all = λ tell. refl;
     small = λ tell. refl;
     wrote = λ tell tiles h. subst (Writes old before.spool.runs before.spool.runs) (sym (append-nil tiles)) h;
+    decoded = All-nil (IsDecoded names);
   }
 
   module _ (m : Merging) (w : WriterSeen) (now : Objects R) (walk : Walk m w now) where
@@ -125,6 +127,7 @@ module _ {R : Type 0} (names : List (List ℕ)) (part : ℕ) (merge : Merging) (
       stays = stays-of before now walk.keeps;
       ends = (walk.counts, λ tell. ap (first_over part) (whole tell) ∙ walk.small tell);
       stands = walk.stand;
+      decoded = λ tell. subst (All (IsDecoded names)) (sym (whole tell)) walk.decoded;
       wrote = λ tell tiles h. subst (λ gs. Writes w before.spool.runs now.spool.runs (tiles ++ tiles_from names gs)) (sym (whole tell)) (walk.wrote tell tiles h);
     })
       where
@@ -133,7 +136,7 @@ module _ {R : Type 0} (names : List (List ℕ)) (part : ℕ) (merge : Merging) (
 
     -- the merge is refused
     refused : (n : Objects R) (e : MergeErr) → Keeps now n → Ends {A = ⊤} part groups before n (Err e) → TilesAnswers names part merge old w before n (Err e)
-    refused n e keeps ends = record { meta = walk.meta; stays = stays-of before n (keeps_trans before now n walk.keeps keeps); ends = ends; stands = tt; wrote = tt }
+    refused n e keeps ends = record { meta = walk.meta; stays = stays-of before n (keeps_trans before now n walk.keeps keeps); ends = ends; stands = tt; decoded = tt; wrote = tt }
 
     pub walk-refused : (n : Objects R) (m' : Merging) (e : MergeErr) → Keeps now n → IfNext now n part m m' (Err e) → TilesAnswers names part merge old w before n (Err e)
     walk-refused n m' (errors.Spill whom) keeps h = refused n (errors.Spill whom) keeps (h.run.store, h.whom_is, only_after before now n h.run.store walk.counts h.only)
@@ -160,8 +163,8 @@ module _ {R : Type 0} (names : List (List ℕ)) (part : ℕ) (merge : Merging) (
       abbrev entry : ℕ × List RunItem
       entry = (g.tile.0, g.items)
 
-      pub walk-next : TileAnswers w w' (tile_from names entry) n.spool spool (Ok tt) → Walk m' w' after
-      walk-next t =
+      pub walk-next : TileAnswers w w' (tile_from names entry) n.spool spool (Ok tt) → IsDecoded names entry → Walk m' w' after
+      walk-next t decoded =
           let keeps : Keeps now after = keeps_trans now n after (keeps_same now n same) (keeps_spool n.readers n.spills n.spool spool (of-kept n.spool.runs spool.runs t.kept t.untold)) in
           let counts : NoneRose now after = none_trans now n after (none_same now n same) (none_spool n.readers n.spills n.spool spool t.counts) in
           record {
@@ -181,6 +184,7 @@ module _ {R : Type 0} (names : List (List ℕ)) (part : ℕ) (merge : Merging) (
                 ∙ ap (λ gs. (walk.done ++ entry ∷ []) ++ gs) (sym (groups_still now after keeps merge.layers m'.readers (subst (λ l. AreTold now l m'.readers) walk.layers gives.ready.told_are)))));
             small = λ tell. over-behind part walk.done (entry ∷ []) (walk.small tell) ∙ over-not part entry [] (subst (λ k. k ≤ part) (need-of (length (items_bytes g.items)) g.bytes gives.is.bytes) gives.fits);
             wrote = λ tell tiles h. wrote-more tell tiles h;
+            decoded = All-append (IsDecoded names) walk.done (entry ∷ []) walk.decoded (All-cons (IsDecoded names) entry [] decoded (All-nil (IsDecoded names)));
           }
         where
           moved : (a b : Runs) → Some a ≡ Some b → (ts : List Tile) → Wrote w a.ended ts → Wrote w b.ended ts
@@ -202,6 +206,7 @@ module _ {R : Type 0} (names : List (List ℕ)) (part : ℕ) (merge : Merging) (
         stays = stays-spool before n spool (keeps_trans before now n walk.keeps (keeps_same now n same)) t.kept;
         ends = by e t.counts;
         stands = tt;
+        decoded = tt;
         wrote = tt;
       }
         where

@@ -1,18 +1,28 @@
 -- What a build's answer says, and what it leaves of the objects that it uses, on any number of lanes.
-use Rattle.std.specs.Prelude.{◌≡◌, ◌⊎◌, ℕ, ◌≤◌, Option, Some, None, IfSome, Result, Ok, Err, List, [], ◌∷◌, map, ⊤}
+use Rattle.std.specs.Prelude.{◌≡◌, ◌⊎◌, ℕ, ◌<◌, ◌≤◌, Option, Some, None, IfSome, option_map, Result, Ok, Err, List, [], ◌∷◌, length, map, flat_map, All, ⊤}
+use Rattle.std.specs.List.Sorted.{IsPermutation}
 use Rattle.tb_outside.specs.Sink.{SinkSeen, with_more, GrowsByPrefix}
 use Rattle.tb_outside.specs.Spill.{Runs, SpillSeen}
 use Rattle.profile_rules.specs.declared.parts.Parts.{Parts}
 use Rattle.profile_rules.specs.Faults.{Fault}
+use Rattle.mvt_codec.specs.declared.item.RunItem.{RunItem}
+use Rattle.mvt_codec.specs.Grammar.{tile_of}
+use Rattle.mvt_codec.specs.Groups.{layers_of}
+use Rattle.mvt_codec.specs.Items.{items_bytes}
+use Rattle.feature_runs.specs.Since.{with_runs}
+use Rattle.run_merge.specs.Items.{AreInOrder}
 use Rattle.tile_model.specs.declared.from.ProfileFrom.{ProfileFrom}
 use Rattle.tile_model.specs.declared.stop.Stop.{Stop}
 use Rattle.tile_model.specs.declared.stop.Stop.TheVariants as stops
 use Rattle.pmtiles_dirs.specs.Back.{read_back}
+use Rattle.pmtiles_dirs.specs.Contents.{Tile}
 use Rattle.pmtiles_dirs.specs.declared.totals.Totals.{Totals}
 use Rattle.pmtiles_file.specs.Spool.{KeepsEnded}
-use Rattle.tile_model.specs.Objects.{reading, spilling, writing, Objects, CountsStay, NoneRose, NoneFell, LeastRose, TellTheSame, runs_told, all_told}
+use Rattle.tile_model.specs.Loads.{AreLoaded}
+use Rattle.tile_model.specs.Needs.{run_limit}
+use Rattle.tile_model.specs.Objects.{extract_in, reading, spilling, writing, Objects, CountsStay, NoneRose, NoneFell, LeastRose, TellTheSame, runs_told, all_told}
 use Rattle.tile_model.specs.Stops.{Cause, contents, items, count, altered, changed, memory, cause_of, stage_of}
-use Rattle.tile_model.specs.Due.{Due, Built, due_in, parts_from}
+use Rattle.tile_model.specs.Due.{Due, Built, items_of, due_in, parts_from}
 use Rattle.tile_model.specs.From.{IsAlone}
 
 -- an archive is due, and P holds of it
@@ -100,6 +110,48 @@ abbrev pub ReadsBack : Result Totals Stop → Option Runs → Option Due → Typ
 ReadsBack (Ok totals) runs due = IfTold runs (IfSome due (λ d. OnBuilt d (λ built. read_back built.bytes ≡ Some built.tiles)))
 ReadsBack (Err stop) runs due = Unit {0}
 
+-- decoding the tiles gives of each the rows of its layers that have some
+abbrev pub AreDecoded : Built → Type 0
+AreDecoded built = map (λ (tile : Tile). tile_of tile.bytes) built.tiles ≡ map (λ (group : ℕ × List RunItem). Ok (layers_of built.names group.1)) built.groups
+
+abbrev pub Decodes : Result Totals Stop → Option Runs → Option Due → Type 0
+Decodes (Ok totals) runs due = IfTold runs (IfSome due (λ d. OnBuilt d AreDecoded))
+Decodes (Err stop) runs due = Unit {0}
+
+-- a run is of some items, in order of their keys, and not longer than the limit, or of one
+pub record IsRun (limit : ℕ) (items : List RunItem) : Type 0 where
+  pub some : 0 < length items
+  pub sorted : AreInOrder items
+  pub short : (length (items_bytes items) ≤ limit) ⊎ (length items ≤ 1)
+
+-- a spill has just these runs more, one behind another, of whole items
+pub record HasRuns (limit : ℕ) (before after : SpillSeen) (runs : List (List RunItem)) : Type 0 where
+  pub ended : after.runs ≡ option_map (with_runs (map items_bytes runs)) before.runs
+  pub each : All (IsRun limit) runs
+
+-- each spill has the runs in its place more
+abbrev pub AllHaveRuns : ℕ → List SpillSeen → List SpillSeen → List (List (List RunItem)) → Type 0
+AllHaveRuns limit [] after runs = ⊤
+AllHaveRuns limit (s ∷ before) [] runs = ⊤
+AllHaveRuns limit (s ∷ before) (t ∷ after) [] = HasRuns limit s t [] × AllHaveRuns limit before after []
+AllHaveRuns limit (s ∷ before) (t ∷ after) (own ∷ runs) = HasRuns limit s t own × AllHaveRuns limit before after runs
+
+-- All these items were written, each once: together they are the runs that the spills have more.
+pub record RunsAre (limit : ℕ) (items : List RunItem) (before after : List SpillSeen) : Type 0 where
+  pub runs : List (List (List RunItem))
+  pub have : AllHaveRuns limit before after runs
+  pub same : IsPermutation items (flat_map (λ own. flat_map (λ run. run) own) runs)
+
+-- the items of the archive's tiles went through runs
+abbrev pub WritesRuns : Result Totals Stop → ℕ → Option Runs → Option Due → List SpillSeen → List SpillSeen → Type 0
+WritesRuns (Ok totals) limit runs due before after = IfTold runs (IfSome due (λ d. OnBuilt d (λ built. RunsAre limit (items_of built) before after)))
+WritesRuns (Err stop) limit runs due before after = Unit {0}
+
+-- the bodies of blocks were loaded, each so often as is due
+abbrev pub Loads : Result Totals Stop → Objects → Objects → Type 0
+Loads (Ok totals) before after = IfSome (extract_in before) (λ extract. AreLoaded extract before.readers after.readers)
+Loads (Err stop) before after = Unit {0}
+
 -- how far a build came: to its end, where there is an archive
 abbrev pub reached : Result Totals Stop → ℕ
 reached (Ok totals) = 3
@@ -112,9 +164,9 @@ AllKeep [] (t ∷ after) = ⊥
 AllKeep (s ∷ before) [] = ⊥
 AllKeep (s ∷ before) (t ∷ after) = KeepsEnded s.runs t.runs × AllKeep before after
 
--- The promise of a build within a budget by its answer. What is due is known as far as profile and extract are told, and what is
+-- The promise of a build within a budget, which so many lanes share for their runs, by its answer. What is due is known as far as profile and extract are told, and what is
 -- written of it where the spool and all spills tell their runs too.
-pub record BuildAnswers (from : ProfileFrom) (budget : ℕ) (before after : Objects) (result : Result Totals Stop) : Type 0 where
+pub record BuildAnswers (from : ProfileFrom) (budget lanes : ℕ) (before after : Objects) (result : Result Totals Stop) : Type 0 where
   -- what contents decide is what is due
   pub told : IfSome (due_in from budget before) (IsDue (all_told before) result)
   pub judged : IfSome (parts_from from before.profile.bytes) (IsJudged result)
@@ -123,6 +175,9 @@ pub record BuildAnswers (from : ProfileFrom) (budget : ℕ) (before after : Obje
   pub never_falls : NoneFell before after
   pub written : Writes result (all_told before) (due_in from budget before) before.archive after.archive
   pub back : ReadsBack result (all_told before) (due_in from budget before)
+  pub decoded : Decodes result (all_told before) (due_in from budget before)
+  pub runs : WritesRuns result (run_limit budget lanes) (all_told before) (due_in from budget before) before.spills after.spills
+  pub loads : Loads result before after
   -- a refused profile or its source's fault leaves the readers untouched
   pub untouched : reached result ≡ 0 → after.readers ≡ before.readers
   -- what sources tell of their bytes stays, and what isn't used is as it was
@@ -150,5 +205,5 @@ Fits before (Err stop) due = FitsFor (cause_of stop) before (due ≡ Err stop)
 
 -- where no count rose, the answer is what is due, or memory wants
 abbrev pub BuildsAreComplete : Type 0
-BuildsAreComplete = (from : ProfileFrom) (budget : ℕ) (before after : Objects) (result : Result Totals Stop) → BuildAnswers from budget before after result → NoneRose before after →
+BuildsAreComplete = (from : ProfileFrom) (budget lanes : ℕ) (before after : Objects) (result : Result Totals Stop) → BuildAnswers from budget lanes before after result → NoneRose before after →
     IfSome (due_in from budget before) (λ due. Fits before result due ⊎ (result ≡ Err stops.Memory))

@@ -9,21 +9,11 @@ use Rattle.osm_elements.specs.Kinds.{has_any}
 use Rattle.profile_rules.specs.declared.parts.Parts.{Parts}
 use Rattle.pmtiles_dirs.specs.Bounds.{CanBeWritten}
 use Rattle.tile_model.specs.Bounds.{boxes_in}
-use Rattle.tile_model.specs.Contents.{Content, header, elements, unread, contents_at}
+use Rattle.tile_model.specs.Contents.{Content, content_at, contents_at}
+use Rattle.tile_model.specs.Loads.{has_nodes, has_ways, holds, that_hold}
 use Rattle.tile_model.specs.Map.{blocks_in}
 use Rattle.pass_survey.specs.Kept.{kept_in, all_kept, IsSoundKept}
 use Rattle.build_one.specs.declared.found.Found.{Found}
-
--- a block has nodes, or ways
-abbrev pub has_nodes : Content → Bool
-has_nodes (header box) = false
-has_nodes (elements number block) = has_any block.nodes
-has_nodes unread = false
-
-abbrev pub has_ways : Content → Bool
-has_ways (header box) = false
-has_ways (elements number block) = has_any block.ways
-has_ways unread = false
 
 -- What is found of blocks that hold this: the box of the first header, the kept relations, and which blocks have nodes and ways.
 pub record HasSurveyed (parts : Parts) (extract : List ℕ) (f : Found) (contents : List Content) : Type 0 where
@@ -72,6 +62,20 @@ pub record Steps (block : BlockAt) (old new : Found) : Type 0 where
   pub nodes : new.nodes.items ≡ with_if nodes_more old.nodes.items block
   pub ways_more : Bool
   pub ways : new.ways.items ≡ with_if ways_more old.ways.items block
+
+-- Where there is still no damage, there was none, and this block came to the lists of those that hold what it holds.
+pub record Lists (extract : List ℕ) (block : BlockAt) (old new : Found) : Type 0 where
+  pub damage : old.damage ≡ None
+  pub nodes : new.nodes.items ≡ with_if (holds has_nodes (content_at extract block)) old.nodes.items block
+  pub ways : new.ways.items ≡ with_if (holds has_ways (content_at extract block)) old.ways.items block
+
+abbrev pub KeepsLists : List ℕ → BlockAt → Found → Found → Type 0
+KeepsLists extract block old new = new.damage ≡ None → Lists extract block old new
+
+-- the lists have just the blocks with nodes, and those with ways, in the order of the blocks
+pub record AreListed (extract : List ℕ) (blocks : List BlockAt) (f : Found) : Type 0 where
+  pub nodes : f.nodes.items ≡ that_hold has_nodes extract blocks
+  pub ways : f.ways.items ≡ that_hold has_ways extract blocks
 
 -- the box that was found can be written
 abbrev pub IsReadyBox : Option (Option Bounds) → Type 0

@@ -1,4 +1,5 @@
 pub mod Answers
+pub mod Extracts
 pub mod Found
 pub mod Made
 pub mod Profiles

@@ -1,5 +1,5 @@
 -- What the passes behind the survey, and writing the map of the runs that they made, answer.
-use Rattle.std.specs.Prelude.{◌≡◌, ℕ, ◌≤◌, Option, None, IfSome, Result, Ok, Err, List, [], ◌∷◌}
+use Rattle.std.specs.Prelude.{◌≡◌, ℕ, ◌≤◌, Option, None, IfSome, Result, Ok, Err, List, [], ◌∷◌, ◌++◌, map}
 use Rattle.tb_types.specs.Counts.{Rose}
 use Rattle.tb_types.specs.declared.location.Bounds.{Bounds}
 use Rattle.tb_types.specs.declared.trouble.Stage.TheVariants as stages
@@ -19,13 +19,18 @@ use Rattle.tile_model.specs.declared.stop.Stop.TheVariants as stops
 use Rattle.tile_model.specs.Bounds.{first_box}
 use Rattle.tile_model.specs.Contents.{Content}
 use Rattle.tile_model.specs.Due.{Due, due_of_groups}
+use Rattle.tile_model.specs.Loads.{whole}
 use Rattle.tile_model.specs.Map.{groups_of, layer_names, meta_of}
 use Rattle.tile_model.specs.Objects.{if_told}
 use Rattle.build_one.specs.declared.found.Found.{Found}
-use Rattle.build_one.specs.Answers.{IsDue, IfTold, Writes, ReadsBack}
+use Rattle.build_one.specs.Answers.{IsDue, IfTold, Writes, ReadsBack, Decodes}
 use Rattle.build_one.specs.Passes.{IsGathered, IsOver, OfSurveyed, Ran}
 
 -- ---- the passes behind the survey
+
+-- what they load, each body whole: of blocks with ways, of those with nodes, and of those with ways again
+abbrev pub loads_behind : Found → List (ℕ × ℕ)
+loads_behind found = map whole found.ways.items ++ (map whole found.nodes.items ++ map whole found.ways.items)
 
 -- which counts rose; no other stop comes
 abbrev pub GatherCounts : {A : Type 0} → Result A Stop → ℕ → ℕ → SpillSeen → SpillSeen → Type 0
@@ -118,8 +123,9 @@ pub record MapWritten (due : Option Due) (s s' o o' : SpillSeen) (k k' : SinkSee
   pub told : IfSome due (IsDue (if_told (s ∷ []) o.runs) result)
   pub written : Writes result (if_told (s ∷ []) o.runs) due k k'
   pub back : ReadsBack result (if_told (s ∷ []) o.runs) due
+  pub decoded : Decodes result (if_told (s ∷ []) o.runs) due
   pub counts : MapCounts result s s' o o' k k'
-  pub spill_kept : KeepsEnded s.runs s'.runs
+  pub spill_runs : s'.runs ≡ s.runs
   pub kept : KeepsEnded o.runs o'.runs
   pub spill_never_falls : s.faults ≤ s'.faults
   pub spool_never_falls : o.faults ≤ o'.faults

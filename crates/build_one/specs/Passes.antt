@@ -16,6 +16,7 @@ use Rattle.tb_outside.specs.Spill.{Runs, SpillSeen}
 use Rattle.tb_outside.specs.declared.spill.RunAt.{RunAt}
 use Rattle.feature_runs.specs.Entry.{Buffered, entry_of}
 use Rattle.feature_runs.specs.Added.{AreThere}
+use Rattle.feature_runs.specs.Since.{IsSince}
 use Rattle.tile_model.specs.Contents.{Content, elements, content_at, contents_at}
 use Rattle.tile_model.specs.Extract.{features_of, all_refs, shape_of}
 use Rattle.tile_model.specs.Items.{AreSound}
@@ -105,6 +106,7 @@ pub record Ran (parts : Parts) (limit : ℕ) (old new : SpillSeen) (runs : List 
   pub sound : AreSound parts items
   pub whole : All IsItem items
   pub listed : (told : Runs) → old.runs ≡ Some told → AreThere (record { limit = limit; runs = runs; entries = [] }) new (map entry_of items)
+  pub since : (told : Runs) → old.runs ≡ Some told → IsSince told new (record { limit = limit; runs = runs; entries = [] }) (map entry_of items)
 
 -- the needs of the kept relations of what an extract holds
 abbrev pub needs_in : Parts → List Content → List ℕ

@@ -1,7 +1,8 @@
 -- What a survey of an extract answers, and what it leaves of its reader.
-use Rattle.std.specs.Prelude.{◌≡◌, ℕ, Bool, true, false, Result, Ok, Err, List, All, length, ⊤}
+use Rattle.std.specs.Prelude.{◌≡◌, ℕ, Bool, true, false, Result, Ok, Err, List, All, length, map, filter, ⊤}
 use Rattle.tb_types.specs.declared.damage.Damage.{Damage}
 use Rattle.pbf_blobs.specs.Answers.{IsShort}
+use Rattle.pbf_blobs.specs.declared.block.BlockAt.{BlockAt}
 use Rattle.pbf_blobs.specs.declared.stop.ScanStop.{ScanStop}
 use Rattle.pbf_blobs.specs.declared.stop.ScanStop.TheVariants as stops
 use Rattle.profile_rules.specs.declared.parts.Parts.{Parts}
@@ -9,7 +10,9 @@ use Rattle.sorted_lists.specs.Sorting.{KeysDiffer}
 use Rattle.tile_model.specs.Contents.{Content}
 use Rattle.tile_model.specs.Extract.{all_nodes, all_ways, features_of}
 use Rattle.tile_model.specs.Features.{name_of}
+use Rattle.tile_model.specs.Loads.{whole}
 use Rattle.tile_model.specs.Map.{blocks_in}
+use Rattle.tile_model.specs.Needs.{is_read}
 use Rattle.build_one.specs.declared.found.Found.{Found}
 use Rattle.build_one.specs.declared.stop.LoadStop.{LoadStop}
 use Rattle.build_one.specs.declared.stop.LoadStop.TheVariants as loads
@@ -17,7 +20,7 @@ use Rattle.tb_outside.specs.declared.spill.SpillErr.{SpillErr}
 use Rattle.tb_outside.specs.declared.spill.SpillErr.TheVariants as spill_errors
 use Rattle.build_one.specs.declared.stop.PassStop.{PassStop}
 use Rattle.build_one.specs.declared.stop.PassStop.TheVariants as passes
-use Rattle.build_one.specs.Found.{HasFound}
+use Rattle.build_one.specs.Found.{HasFound, AreListed}
 
 -- no two features have one name, and no two nodes or ways one place
 pub record IsApart (parts : Parts) (contents : List Content) : Type 0 where
@@ -35,11 +38,15 @@ pub record LieWithin (size : ℕ) (f : Found) : Type 0 where
   pub ways : All (IsShort size) f.ways.items
 
 -- it is what the blocks hold, or the damage
-abbrev pub Surveys : Parts → List ℕ → Result Found ScanStop → Result (List Content) Damage → Type 0
-Surveys parts extract (Ok found) contents = HasFound parts extract found contents × AreApart parts contents × LieWithin (length extract) found
-Surveys parts extract (Err (stops.Damage damage)) contents = contents ≡ Err damage
-Surveys parts extract (Err stops.Failed) contents = Unit {0}
-Surveys parts extract (Err stops.Memory) contents = Unit {0}
+abbrev pub Surveys : Parts → List ℕ → List BlockAt → Result Found ScanStop → Result (List Content) Damage → Type 0
+Surveys parts extract blocks (Ok found) contents = HasFound parts extract found contents × AreApart parts contents × LieWithin (length extract) found × AreListed extract blocks found
+Surveys parts extract blocks (Err (stops.Damage damage)) contents = contents ≡ Err damage
+Surveys parts extract blocks (Err stops.Failed) contents = Unit {0}
+Surveys parts extract blocks (Err stops.Memory) contents = Unit {0}
+
+-- the loads of those of some blocks that are read, each whole
+abbrev pub loads_of : List BlockAt → List (ℕ × ℕ)
+loads_of blocks = map whole (filter (λ (b : BlockAt). is_read b.kind) blocks)
 
 -- the reader failed
 abbrev pub survey_failed : {A : Type 0} → Result A ScanStop → Bool

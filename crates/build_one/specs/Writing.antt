@@ -6,6 +6,7 @@ use Rattle.tb_outside.specs.Spill.{SpillSeen, Runs}
 use Rattle.tb_outside.specs.declared.spill.RunAt.{RunAt}
 use Rattle.profile_rules.specs.declared.parts.Parts.{Parts}
 use Rattle.mvt_codec.specs.declared.item.RunItem.{RunItem}
+use Rattle.mvt_codec.specs.Groups.{IsReadAgain, text_of_items}
 use Rattle.pmtiles_dirs.specs.declared.meta.Meta.{Meta}
 use Rattle.pmtiles_dirs.specs.Contents.{Tile}
 use Rattle.pmtiles_file.specs.Spool.{KeepsEnded}
@@ -29,6 +30,10 @@ pub record AreShort (names : List (List ℕ)) : Type 0 where
 -- the items of all listed runs, tile after tile
 abbrev pub all_groups : {R : Type 0} → Objects R → List (List RunAt) → List (ℕ × List RunItem)
 all_groups o runs = groups_in (map (items_of o) (named_runs runs))
+
+-- the text of a tile's items is decoded as the rows of its layers
+abbrev pub IsDecoded : List (List ℕ) → ℕ × List RunItem → Type 0
+IsDecoded names group = IsReadAgain names group.1 (text_of_items names group.1)
 
 -- where a spool told its runs, it tells them still, and the writer wrote these tiles there
 pub record HasWrote (w : WriterSeen) (after : Option Runs) (tiles : List Tile) : Type 0 where
@@ -83,6 +88,7 @@ pub record TilesAnswers {R : Type 0} (names : List (List ℕ)) (part : ℕ) (mer
   pub stays : Stays before after
   pub ends : Ends part (left_groups before (cursors_of merge.readers)) before after result
   pub stands : OnOk result (RunsStand new after.spool.runs)
+  pub decoded : OnOk result (AllTell before → All (IsDecoded names) (left_groups before (cursors_of merge.readers)))
   pub wrote : OnOk result (AllTell before → (tiles : List Tile) → Writes old before.spool.runs before.spool.runs tiles
       → Writes new before.spool.runs after.spool.runs (tiles ++ tiles_from names (left_groups before (cursors_of merge.readers))))
 
@@ -90,6 +96,7 @@ pub record TilesAnswers {R : Type 0} (names : List (List ℕ)) (part : ℕ) (mer
 pub record HasTiles {R : Type 0} (parts : Parts) (meta : Meta) (groups : List (ℕ × List RunItem)) (before after : Objects R) (w : WriterSeen) : Type 0 where
   pub meta_is : w.meta ≡ meta
   pub stands : RunsStand w after.spool.runs
+  pub decoded : AllTell before → All (IsDecoded (layer_names parts)) groups
   pub wrote : AllTell before → Writes w before.spool.runs after.spool.runs (tiles_from (layer_names parts) groups)
 
 pub record MapAnswers {R : Type 0} (parts : Parts) (part : ℕ) (meta : Meta) (groups : List (ℕ × List RunItem)) (before after : Objects R) (result : Result WriterSeen MergeErr) : Type 0 where

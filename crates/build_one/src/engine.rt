@@ -1,44 +1,37 @@
-ghost use Rattle.std.specs.Prelude.{◌≡◌, ◌∷◌, [], ◌≤◌, ◌<◌, ◌^◌, Option, IfSome, length};
+ghost use Rattle.std.specs.Prelude.{◌≡◌, ◌∷◌, [], ◌≤◌, ◌<◌, ◌^◌, Option, IfSome, OnOk, length};
 ghost use Rattle.profile_rules.specs.Fields.{layers_of};
 ghost use Rattle.profile_rules.specs.Sound.{IsSound};
 ghost use Rattle.pmtiles_dirs.specs.Bounds.{CanBeWritten};
 ghost use Rattle.run_merge.specs.Answers.{named_runs};
 ghost use Rattle.run_merge.specs.Objects.{objects_of};
 ghost use Rattle.run_merge.specs.Steps.{AreReadable};
+ghost use Rattle.tb_types.specs.Needs.{batch_part};
 ghost use Rattle.tile_model.specs.Due.{Due};
 ghost use Rattle.tile_model.specs.From.{IsKeyed, IsAlone};
 ghost use Rattle.tile_model.specs.Objects.{if_told, one_lane};
 ghost use Rattle.build_one.specs.Answers.{BuildAnswers, BuildsAreComplete};
-ghost use Rattle.build_one.specs.Found.{IsReady};
-ghost use Rattle.build_one.specs.Made.{GatherAnswers, IsKnown, MapWritten};
-ghost use Rattle.build_one.specs.Survey.{LieWithin};
+ghost use Rattle.build_one.specs.Made.{IsKnown, MapWritten};
+ghost use Rattle.build_one.specs.Extracts.{at_lane};
 ghost use Rattle.build_one.specs.Writing.{all_groups};
 
-use crate::found::Found;
+use crate::extract::read_extract;
 use crate::map::meta_of;
-use crate::members::members;
-use crate::needs::{batch_part, largest_block, run_limit};
-use crate::nodes::nodes;
-use crate::numbers::{MEMBERS, MOST_BYTES, NODES, WAYS};
+use crate::needs::batch_part;
+use crate::numbers::MOST_BYTES;
 use crate::profile::profile_from;
-use crate::relations::relations;
-use crate::stop::{
-    stop_of_archive, stop_of_pass, stop_of_profile, stop_of_relations, stop_of_survey,
-    stop_of_tiles,
-};
-use crate::survey::survey;
+use crate::stop::{stop_of_archive, stop_of_profile, stop_of_tiles};
 use crate::tiles::write_tiles;
-use crate::ways::ways;
-use feature_runs::{RunAt, RunBuffer};
-use pass_survey::needed_ways;
-use pbf_blobs::scan;
+use feature_runs::RunAt;
+use memory_book::{Book, Purse};
 use pmtiles_file::Totals;
 use profile_rules::Profile;
 use std::alloc::Global;
+use std::marker::Brand;
 use std::mem::size_of_val;
 use std::slice;
+use std::sync::ledger::Blank;
 use tb_outside::{Lane, Sink, Source, Spill};
-use tb_types::{Bounds, Memory, Seq, Stage};
+use tb_types::{Bounds, Memory, Seq};
 use tile_model::{ProfileFrom, Stop};
 
 /// Builds the archive of the extract that the lane's reader has, by a profile and within a budget of memory, in bytes, and appends
@@ -59,98 +52,131 @@ pub fn build<P: Source, R: Source, S: Spill, K: Sink>(
 ) -> Result<Totals, Stop>
     requires keyed { IsKeyed from }
     requires budget { budget ≤ 2 ^ 32 }
-    ensures answers { BuildAnswers from budget (one_lane P.seen R.seen S.seen K.seen profile.old lane.old spool.old archive.old)
+    ensures answers { BuildAnswers from budget 1 (one_lane P.seen R.seen S.seen K.seen profile.old lane.old spool.old archive.old)
+        (one_lane P.seen R.seen S.seen K.seen profile.new lane.new spool.new archive.new) result }
+    ensures alone { IsAlone from → profile.new ≡ profile.old }
+{
+    let blank = Blank::new(batch_part(budget));
+    build_in::<Brand, P, R, S, K>(alloc, from, profile, lane, spool, archive, budget, blank)
+}
+
+// The same with a blank book, in which all that is loaded and worked on is booked.
+fn build_in<L: Purse, P: Source, R: Source, S: Spill, K: Sink>(
+    alloc: Global,
+    from: ProfileFrom,
+    profile: &mut P,
+    lane: &mut Lane<R, S>,
+    spool: &mut S,
+    archive: &mut K,
+    budget: u64,
+    blank: Blank,
+) -> Result<Totals, Stop>
+    requires keyed { IsKeyed from }
+    requires budget { budget ≤ 2 ^ 32 }
+    requires ledger { (blank.name ≡ L.name) × (blank.parts ≡ L.parts) × (L.parts ≡ L.budget) × (L.budget ≡ batch_part budget) }
+    ensures answers { BuildAnswers from budget 1 (one_lane P.seen R.seen S.seen K.seen profile.old lane.old spool.old archive.old)
         (one_lane P.seen R.seen S.seen K.seen profile.new lane.new spool.new archive.new) result }
     ensures alone { IsAlone from → profile.new ≡ profile.old }
 {
     let part = batch_part(budget);
+    let mut book = Book::<L>::new(blank, part);
     let profile = match profile_from(alloc, &from, profile) {
         Ok(profile) => profile,
         Err(e) => return Err(stop_of_profile(e)),
     };
-    let index = match scan(alloc, &mut lane.reader) {
-        Ok(index) => index,
-        Err(e) => return Err(stop_of_survey(e)),
-    };
-    let blocks = index.blocks.as_slice();
-    let need = largest_block(blocks);
-    if need > part {
-        return Err(Stop::Budget {
-            stage: Stage::Block,
-            need,
-        });
-    }
-    let found = match survey(alloc, &profile, &mut lane.reader, blocks) {
-        Ok(found) => found,
-        Err(e) => return Err(stop_of_survey(e)),
-    };
-    let runs = match gather(alloc, &profile, lane, &found, part, run_limit(budget)) {
-        Ok(runs) => runs,
+    let items = match read_extract(
+        alloc,
+        &profile,
+        &mut lane.reader,
+        &mut lane.spill,
+        &mut book,
+        budget,
+    ) {
+        Ok(items) => items,
         Err(stop) => return Err(stop),
     };
-    let bounds = found.header_box.unwrap_or(None);
-    write_map(alloc, &profile, runs, bounds, lane, spool, archive, part)
+    write_map(
+        alloc,
+        &profile,
+        items.runs,
+        items.bounds,
+        lane,
+        spool,
+        archive,
+        &mut book,
+        part,
+    )
 }
 
-// The runs of the items of all features: the needed ways and nodes are found, then nodes are located and their items made, then
-// those of ways, and of kept relations.
-fn gather<R: Source, S: Spill>(
+/// The same from an extract beside the lane's reader, which is left alone.
+pub fn build_beside<P: Source, X: Source, R, S: Spill, K: Sink>(
     alloc: Global,
-    profile: &Profile,
+    from: ProfileFrom,
+    profile: &mut P,
+    extract: &mut X,
     lane: &mut Lane<R, S>,
-    found: &Found,
-    part: u64,
-    limit: u64,
-) -> Result<Seq<RunAt>, Stop>
-    requires sound { IsSound profile.now }
-    requires ready { IsReady profile.now found.now }
-    requires within { IfSome (R.seen lane.old.reader).bytes (λ extract. LieWithin (length extract) found.now) }
-    ensures { GatherAnswers profile.now part limit found.now (R.seen lane.old.reader) (R.seen lane.new.reader) (S.seen lane.old.spill) (S.seen lane.new.spill) result }
+    spool: &mut S,
+    archive: &mut K,
+    budget: u64,
+) -> Result<Totals, Stop>
+    requires keyed { IsKeyed from }
+    requires budget { budget ≤ 2 ^ 32 }
+    ensures answers { BuildAnswers from budget 1 (at_lane (P.seen profile.old) (X.seen extract.old) (S.seen lane.old.spill) (S.seen spool.old) (K.seen archive.old))
+        (at_lane (P.seen profile.new) (X.seen extract.new) (S.seen lane.new.spill) (S.seen spool.new) (K.seen archive.new)) result }
+    ensures alone { IsAlone from → profile.new ≡ profile.old }
+    ensures reader { lane.new.reader ≡ lane.old.reader }
 {
-    let member_ways = match needed_ways(alloc, &found.kept) {
-        Ok(ways) => ways,
-        Err(Memory) => return Err(Stop::Memory),
+    let blank = Blank::new(batch_part(budget));
+    build_beside_in::<Brand, P, X, R, S, K>(
+        alloc, from, profile, extract, lane, spool, archive, budget, blank,
+    )
+}
+
+// The same with a blank book, in which all that is loaded and worked on is booked.
+fn build_beside_in<L: Purse, P: Source, X: Source, R, S: Spill, K: Sink>(
+    alloc: Global,
+    from: ProfileFrom,
+    profile: &mut P,
+    extract: &mut X,
+    lane: &mut Lane<R, S>,
+    spool: &mut S,
+    archive: &mut K,
+    budget: u64,
+    blank: Blank,
+) -> Result<Totals, Stop>
+    requires keyed { IsKeyed from }
+    requires budget { budget ≤ 2 ^ 32 }
+    requires ledger { (blank.name ≡ L.name) × (blank.parts ≡ L.parts) × (L.parts ≡ L.budget) × (L.budget ≡ batch_part budget) }
+    ensures answers { BuildAnswers from budget 1 (at_lane (P.seen profile.old) (X.seen extract.old) (S.seen lane.old.spill) (S.seen spool.old) (K.seen archive.old))
+        (at_lane (P.seen profile.new) (X.seen extract.new) (S.seen lane.new.spill) (S.seen spool.new) (K.seen archive.new)) result }
+    ensures alone { IsAlone from → profile.new ≡ profile.old }
+    ensures reader { lane.new.reader ≡ lane.old.reader }
+{
+    let part = batch_part(budget);
+    let mut book = Book::<L>::new(blank, part);
+    let profile = match profile_from(alloc, &from, profile) {
+        Ok(profile) => profile,
+        Err(e) => return Err(stop_of_profile(e)),
     };
-    let needed = match members(alloc, profile, &mut lane.reader, &found.ways, &member_ways) {
-        Ok(needed) => needed,
-        Err(e) => return Err(stop_of_pass(MEMBERS, e)),
+    let items = match read_extract(alloc, &profile, extract, &mut lane.spill, &mut book, budget) {
+        Ok(items) => items,
+        Err(stop) => return Err(stop),
     };
-    let mut buffer = match RunBuffer::new(alloc, limit) {
-        Ok(buffer) => buffer,
-        Err(Memory) => return Err(Stop::Memory),
-    };
-    let locations = match nodes(alloc, profile, lane, &mut buffer, &found.nodes, &needed) {
-        Ok(locations) => locations,
-        Err(e) => return Err(stop_of_pass(NODES, e)),
-    };
-    let shapes = match ways(
+    write_map(
         alloc,
-        profile,
+        &profile,
+        items.runs,
+        items.bounds,
         lane,
-        &mut buffer,
-        &found.ways,
-        &member_ways,
-        &locations,
-    ) {
-        Ok(shapes) => shapes,
-        Err(e) => return Err(stop_of_pass(WAYS, e)),
-    };
-    match relations(
-        alloc,
-        profile,
-        &found.kept,
-        &shapes,
-        &mut lane.spill,
-        buffer,
+        spool,
+        archive,
+        &mut book,
         part,
-    ) {
-        Ok(runs) => Ok(runs),
-        Err(e) => Err(stop_of_relations(e)),
-    }
+    )
 }
 
 // Writes the map of the items in these runs: its tiles, and then the archive.
-fn write_map<R, S: Spill, K: Sink>(
+fn write_map<L: Purse, R, S: Spill, K: Sink>(
     alloc: Global,
     profile: &Profile,
     runs: Seq<RunAt>,
@@ -158,6 +184,7 @@ fn write_map<R, S: Spill, K: Sink>(
     lane: &mut Lane<R, S>,
     spool: &mut S,
     archive: &mut K,
+    book: &mut Book<L>,
     part: u64,
 ) -> Result<Totals, Stop>
     requires runs { AreReadable (objects_of S.seen (lane.old ∷ []) spool.old) (length (layers_of profile.now)) (named_runs (runs ∷ [])) }
@@ -177,7 +204,7 @@ fn write_map<R, S: Spill, K: Sink>(
         Err(Memory) => return Err(Stop::Memory),
     };
     let lanes = slice::from_mut(lane);
-    let writer = match write_tiles(alloc, profile, meta, &[runs], lanes, spool, part) {
+    let writer = match write_tiles(alloc, profile, meta, &[runs], lanes, spool, book, part) {
         Ok(writer) => writer,
         Err(e) => return Err(stop_of_tiles(e)),
     };

@@ -5,7 +5,7 @@ ghost use Rattle.pbf_blobs.specs.declared.block.BlockKind.TheVariants as kinds;
 ghost use Rattle.osm_elements.specs.declared.fault.BlockErr.TheVariants as faults;
 ghost use Rattle.profile_rules.specs.declared.parts.Parts.{Parts};
 ghost use Rattle.tile_model.specs.Contents.{IsBody, content_at};
-ghost use Rattle.build_one.specs.Found.{Holds, Takes, IsReady, Notes, Steps};
+ghost use Rattle.build_one.specs.Found.{Holds, Takes, IsReady, KeepsLists, Notes, Steps};
 
 use crate::body::{block_in, header_in};
 use member_sets::KeptRelation;
@@ -54,6 +54,7 @@ impl Found {
         ensures takes { (extract : List ℕ) → IsBody extract block body.now → Takes profile.now extract self.old self.new result (content_at extract block) }
         ensures ready { IsReady profile.now self.old → OnOk result (IsReady profile.now self.new) }
         ensures steps { OnOk result (Steps block self.old self.new) }
+        ensures lists { (extract : List ℕ) → IsBody extract block body.now → OnOk result (KeepsLists extract block self.old self.new) }
     {
         if self.damage.is_some() {
             return Ok(());
@@ -72,6 +73,7 @@ impl Found {
         ensures takes { (parts : Parts) (extract : List ℕ) → IsBody extract block body.now → Takes parts extract self.old self.new result (content_at extract block) }
         ensures ready { (parts : Parts) → IsReady parts self.old → OnOk result (IsReady parts self.new) }
         ensures steps { OnOk result (Steps block self.old self.new) }
+        ensures lists { (extract : List ℕ) → IsBody extract block body.now → OnOk result (KeepsLists extract block self.old self.new) }
     {
         match header_in(alloc, body) {
             Ok(found) => {
@@ -104,6 +106,7 @@ impl Found {
         ensures takes { (extract : List ℕ) → IsBody extract block body.now → Takes profile.now extract self.old self.new result (content_at extract block) }
         ensures ready { IsReady profile.now self.old → OnOk result (IsReady profile.now self.new) }
         ensures steps { OnOk result (Steps block self.old self.new) }
+        ensures lists { (extract : List ℕ) → IsBody extract block body.now → OnOk result (KeepsLists extract block self.old self.new) }
     {
         match block_in(alloc, body) {
             Ok(elements) => self.note_block(alloc, profile, block, &elements),

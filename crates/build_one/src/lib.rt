@@ -1,12 +1,14 @@
 //! A build on one lane: takes a profile and the extract that a lane's reader has, gives its archive to a sink.
 //!
-//! Read `engine` (the passes by their names), then along the way of the bytes: `profile`, `survey` and `found` (which blocks the
-//! extract has), `load` and `body` (one block), the passes `members`, `nodes`, `ways` and `relations`, `map` (what the archive says of the map)
+//! Read `engine` and `extract` (the passes by their names), then along the way of the bytes: `profile`, `survey` and `found` (which
+//! blocks the extract has), `booking`, `load` and `body` (one block), the passes `members`, `nodes`, `ways` and `relations`, `map` (what the archive says of the map)
 //! and `tiles`. What a build promises by its answer stands in `specs/Answers`; what is due is `tile_model`'s `Due`.
 #![tactic(auto)]
 
 mod body;
+mod booking;
 mod engine;
+mod extract;
 mod found;
 mod load;
 mod map;
@@ -22,7 +24,7 @@ mod tiles;
 mod ways;
 mod worked;
 
-pub use engine::{build, builds_are_complete};
+pub use engine::{build, build_beside, builds_are_complete};
 pub use pmtiles_file::Totals;
 pub use tile_model::{ProfileFrom, Stop};
 pub use worked::worked_rows;

@@ -1,9 +1,10 @@
-ghost use Rattle.std.specs.Prelude.{◌≡◌, ◌+◌, ◌≤◌, IfOk, IfSome, length};
+ghost use Rattle.std.specs.Prelude.{◌≡◌, ◌+◌, ◌≤◌, ◌∷◌, [], IfOk, IfSome, OnOk, length};
 ghost use Rattle.tb_types.specs.Counts.{Counted};
 ghost use Rattle.tile_model.specs.Contents.{IsBody};
+ghost use Rattle.tile_model.specs.Loads.{whole, Logs};
 ghost use Rattle.build_one.specs.Found.{IsOfElements};
 ghost use Rattle.build_one.specs.Passes.{Loads};
-ghost use Rattle.build_one.specs.Survey.{load_failed, source_failed, NoSpill};
+ghost use Rattle.build_one.specs.Survey.{load_failed, loads_of, source_failed, NoSpill};
 
 use crate::body::block_in;
 use crate::stop::{LoadStop, PassStop};
@@ -25,6 +26,7 @@ pub fn load_block<R: Source>(
     ensures told { IfSome (R.seen reader.old).bytes (λ extract. Loads extract block result) }
     ensures alone { NoSpill result }
     ensures counts { Counted (source_failed result) (R.seen reader.old).faults (R.seen reader.new).faults }
+    ensures loads { OnOk result (Logs (R.seen reader.old) (R.seen reader.new) (whole block ∷ [])) }
     ensures bytes { (R.seen reader.new).bytes ≡ (R.seen reader.old).bytes }
 {
     let body = match load_body(alloc, reader, block) {
@@ -51,6 +53,7 @@ pub fn load_body<R: Source>(
     requires within { IfSome (R.seen reader.old).bytes (λ extract. block.at + block.len ≤ length extract) }
     ensures told { IfOk result (λ body. IfSome (R.seen reader.old).bytes (λ extract. IsBody extract block body.items)) }
     ensures counts { Counted (load_failed result) (R.seen reader.old).faults (R.seen reader.new).faults }
+    ensures loads { OnOk result (Logs (R.seen reader.old) (R.seen reader.new) (loads_of (block ∷ []))) }
     ensures bytes { (R.seen reader.new).bytes ≡ (R.seen reader.old).bytes }
 {
     if block.kind == BlockKind::Other {

@@ -1,6 +1,6 @@
-ghost use Rattle.std.specs.Prelude.{◌≡◌, ◌/◌, max};
+ghost use Rattle.std.specs.Prelude.{◌≡◌, ◌<◌, max};
 ghost use Rattle.tb_types.specs.Needs as needs;
-ghost use Rattle.tile_model.specs.Needs.{block_needs, is_read, largest};
+ghost use Rattle.tile_model.specs.Needs.{block_needs, is_read, largest, run_limit};
 
 use crate::numbers::{BLOCK_FACTOR, BLOCK_REST};
 use pbf_blobs::{BlockAt, BlockKind};
@@ -12,11 +12,12 @@ pub fn batch_part(budget: u64) -> u64
     budget - budget / 4
 }
 
-/// How long a run may be, in bytes, on one lane.
-pub fn run_limit(budget: u64) -> u64
-    ensures { result ≡ budget / 4 }
+/// How long a run may be, in bytes, where so many lanes share a budget.
+pub fn run_limit(budget: u64, lanes: u64) -> u64
+    requires { 0 < lanes }
+    ensures { result ≡ run_limit budget lanes }
 {
-    budget / 4
+    budget / 4 / lanes
 }
 
 /// The largest need of the blocks that are read, in bytes, or 0 where there is none.
@@ -32,15 +33,15 @@ pub fn largest_block(blocks: &[BlockAt]) -> u64
     most
 }
 
-// Whether the body of a block is read.
-fn is_read(kind: BlockKind) -> bool
+/// Whether the body of a block of this kind is read.
+pub fn is_read(kind: BlockKind) -> bool
     ensures { result ≡ is_read kind }
 {
     kind != BlockKind::Other
 }
 
-// What a block with a body of so many bytes needs.
-fn block_need(len: u32) -> u64
+/// What a block with a body of so many bytes needs, in bytes.
+pub fn block_need(len: u32) -> u64
     ensures { result ≡ needs.block_need len }
 {
     BLOCK_FACTOR * u64::from(len) + BLOCK_REST

@@ -1,4 +1,4 @@
-ghost use Rattle.std.specs.Prelude.{◌≡◌, ◌<◌, IfSome, length};
+ghost use Rattle.std.specs.Prelude.{◌≡◌, ◌<◌, false, IfSome, length};
 ghost use Rattle.profile_rules.specs.Faults.{Gives};
 ghost use Rattle.profile_rules.specs.Profile.{profile_of};
 ghost use Rattle.tb_types.specs.Counts.{Counted};
@@ -12,7 +12,7 @@ use profile_rules::{
 };
 use std::alloc::Global;
 use tb_outside::Source;
-use tile_model::ProfileFrom;
+use tile_model::{ProfileFrom, trial_text};
 
 /// The profile of a build. A text is refused by its size before it is loaded.
 pub fn profile_from<P: Source>(
@@ -29,6 +29,7 @@ pub fn profile_from<P: Source>(
     match from {
         ProfileFrom::Read => read_from(alloc, source),
         ProfileFrom::OneRule(key) => Ok(one_rule(alloc, key.as_str())?),
+        ProfileFrom::Trial => read_text(alloc, trial_text()),
     }
 }
 
@@ -42,7 +43,15 @@ fn read_from<P: Source>(alloc: Global, source: &mut P) -> Result<Profile, Profil
         Ok(text) => text,
         Err(e) => return Err(e),
     };
-    match read_profile(alloc, &text) {
+    read_text(alloc, &text)
+}
+
+// The profile of a text.
+fn read_text(alloc: Global, text: &[u8]) -> Result<Profile, ProfileStop>
+    ensures told { ReadsProfile result (profile_of text.now) }
+    ensures read { profile_failed result ≡ false }
+{
+    match read_profile(alloc, text) {
         Ok(profile) => Ok(profile),
         Err(ProfileErr::Bad { spot, why }) => Err(ProfileStop::Bad { spot, why }),
         Err(ProfileErr::Memory) => Err(ProfileStop::Memory),

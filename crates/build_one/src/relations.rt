@@ -7,9 +7,11 @@ ghost use Rattle.pass_shapes.specs.Emitting.{Emits};
 ghost use Rattle.pass_shapes.specs.Stores.{shape_in};
 ghost use Rattle.build_one.specs.Passes.{RelationAnswers};
 
+use crate::booking::book_need;
 use crate::stop::RelationStop;
 use feature_runs::{RunAt, RunBuffer};
 use member_sets::KeptRelation;
+use memory_book::{Book, Purse};
 use node_store::Shapes;
 use pass_shapes::{largest_relation, put_relations};
 use profile_rules::Profile;
@@ -18,14 +20,15 @@ use tb_outside::{Spill, SpillErr};
 use tb_types::Seq;
 
 /// Adds the items of the kept relations to the run buffer, writes what it then holds as its last run, and gives the runs that it
-/// wrote. It loads nothing. `TooLarge` exactly where a kept relation needs more than the part of memory, in bytes; then nothing is
+/// wrote. It loads nothing, and books the largest need while it adds items. `TooLarge` exactly where a kept relation needs more than the part of memory, in bytes; then nothing is
 /// added.
-pub fn relations<S: Spill>(
+pub fn relations<L: Purse, S: Spill>(
     alloc: Global,
     profile: &Profile,
     kept: &[KeptRelation],
     shapes: &Shapes,
     spill: &mut S,
+    book: &mut Book<L>,
     mut buffer: RunBuffer,
     part: u64,
 ) -> Result<Seq<RunAt>, RelationStop>
@@ -37,7 +40,10 @@ pub fn relations<S: Spill>(
     if need > part {
         return Err(RelationStop::TooLarge { need });
     }
-    add_relations(alloc, profile, kept, shapes, spill, &mut buffer)?;
+    let grant = book_need(book, need)?;
+    let added = add_relations(alloc, profile, kept, shapes, spill, &mut buffer);
+    book.give(grant);
+    added?;
     let runs = Vec::from_slice(alloc, buffer.runs())?;
     Ok(Seq::from_vec(runs))
 }

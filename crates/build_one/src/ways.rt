@@ -1,8 +1,9 @@
-ghost use Rattle.std.specs.Prelude.{◌≡◌, ◌++◌, All, IfSome, OnOk, length};
+ghost use Rattle.std.specs.Prelude.{◌≡◌, ◌++◌, All, IfSome, OnOk, length, map};
 ghost use Rattle.tb_types.specs.Counts.{Counted};
 ghost use Rattle.pbf_blobs.specs.Answers.{IsShort};
 ghost use Rattle.profile_rules.specs.Sound.{IsSound};
 ghost use Rattle.feature_runs.specs.Writing.{Frames};
+ghost use Rattle.tile_model.specs.Loads.{whole, Logs};
 ghost use Rattle.tile_model.specs.Tiles.{emitted_items};
 ghost use Rattle.tile_model.specs.Ways.{block_ways};
 ghost use Rattle.pass_shapes.specs.Emitting.{Emits};
@@ -11,10 +12,12 @@ ghost use Rattle.build_one.specs.Found.{IsOfElements};
 ghost use Rattle.build_one.specs.Passes.{AreDrawn, Reads};
 ghost use Rattle.build_one.specs.Survey.{as_spilled, source_failed};
 
+use crate::booking::book_block;
 use crate::load::load_block;
 use crate::stop::{PassStop, stop_of_spill};
 use feature_runs::RunBuffer;
 use member_sets::NeededWays;
+use memory_book::{Book, Purse};
 use node_store::{Locations, Shaped, Shapes};
 use osm_elements::Block;
 use pass_shapes::{put_shaped, put_ways};
@@ -22,37 +25,44 @@ use pbf_blobs::BlockAt;
 use profile_rules::Profile;
 use shard_store::ShardMap;
 use std::alloc::Global;
-use tb_outside::{Lane, Source, Spill, SpillErr};
+use tb_outside::{Source, Spill, SpillErr};
 use tb_types::{Memory, OsmId};
 
 /// Gives the needed ways their shapes, and adds the items of all ways to the run buffer. Each of these blocks is loaded, once.
-pub fn ways<R: Source, S: Spill>(
+pub fn ways<L: Purse, R: Source, S: Spill>(
     alloc: Global,
     profile: &Profile,
-    lane: &mut Lane<R, S>,
+    reader: &mut R,
+    spill: &mut S,
+    book: &mut Book<L>,
     buffer: &mut RunBuffer,
     blocks: &[BlockAt],
     needed: &NeededWays,
     locations: &Locations,
 ) -> Result<Shapes, PassStop>
     requires sound { IsSound profile.now }
-    requires within { IfSome (R.seen lane.old.reader).bytes (λ extract. All (IsShort (length extract)) blocks.now) }
+    requires within { IfSome (R.seen reader.old).bytes (λ extract. All (IsShort (length extract)) blocks.now) }
     requires kinds { All IsOfElements blocks.now }
-    ensures read { Reads (λ shapes read. AreDrawn profile.now needed.now locations.now (S.seen lane.old.spill) (S.seen lane.new.spill) buffer.old buffer.new shapes read) blocks.now (R.seen lane.old.reader).bytes result }
-    ensures counts { Counted (source_failed result) (R.seen lane.old.reader).faults (R.seen lane.new.reader).faults }
-    ensures bytes { (R.seen lane.new.reader).bytes ≡ (R.seen lane.old.reader).bytes }
-    ensures spill { Frames (S.seen lane.old.spill) (S.seen lane.new.spill) (as_spilled result) }
+    ensures read { Reads (λ shapes read. AreDrawn profile.now needed.now locations.now (S.seen spill.old) (S.seen spill.new) buffer.old buffer.new shapes read) blocks.now (R.seen reader.old).bytes result }
+    ensures counts { Counted (source_failed result) (R.seen reader.old).faults (R.seen reader.new).faults }
+    ensures loads { OnOk result (Logs (R.seen reader.old) (R.seen reader.new) (map whole blocks.now)) }
+    ensures bytes { (R.seen reader.new).bytes ≡ (R.seen reader.old).bytes }
+    ensures spill { Frames (S.seen spill.old) (S.seen spill.new) (as_spilled result) }
 {
     let mut entries: Vec<(OsmId, Shaped)> = Vec::new(alloc);
     for block in blocks {
-        let elements = match load_block(alloc, &mut lane.reader, *block) {
+        let grant = book_block(book, *block)?;
+        let elements = match load_block(alloc, reader, *block) {
             Ok(elements) => elements,
-            Err(stop) => return Err(stop),
+            Err(stop) => {
+                book.give(grant);
+                return Err(stop);
+            }
         };
         match draw(
             &mut entries,
             buffer,
-            &mut lane.spill,
+            spill,
             alloc,
             profile,
             needed,
@@ -60,8 +70,11 @@ pub fn ways<R: Source, S: Spill>(
             block.no,
             &elements,
         ) {
-            Ok(()) => {}
-            Err(e) => return Err(stop_of_spill(e)),
+            Ok(()) => book.give(grant),
+            Err(e) => {
+                book.give(grant);
+                return Err(stop_of_spill(e));
+            }
         }
     }
     Ok(Shapes::from_map(ShardMap::joined(entries)))

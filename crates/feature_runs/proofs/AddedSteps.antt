@@ -35,7 +35,7 @@ one_more limit ended [] (others ∷ lists) run entries are is = absurd are
 one_more limit ended (other ∷ runs) [] run entries are is = absurd are
 one_more limit ended (other ∷ runs) (others ∷ lists) run entries are is = (are.0, one_more limit ended runs lists run entries are.1 is)
 
-joined-more : (lists : List (List Entry)) (entries : List Entry) → joined (lists ++ entries ∷ []) ≡ joined lists ++ entries
+pub joined-more : (lists : List (List Entry)) (entries : List Entry) → joined (lists ++ entries ∷ []) ≡ joined lists ++ entries
 joined-more lists entries = flat_map-append (λ (es : List Entry). es) lists (entries ∷ []) ∙ ap (λ (es : List Entry). joined lists ++ es) (append-nil entries)
 
 pub nothing_added : (limit : ℕ) (ended : List (List ℕ)) → WereAdded (record { limit = limit; runs = []; entries = [] }) ended []

@@ -9,4 +9,5 @@ pub mod Limit
 pub mod Loops
 pub mod Order
 pub mod Points
+pub mod SinceSteps
 pub mod WorkedItems

@@ -5,5 +5,6 @@ pub mod Entry
 pub mod Index
 pub mod ItemReading
 pub mod Lengths
+pub mod Since
 pub mod WorkedItems
 pub mod Writing

@@ -1,9 +1,11 @@
-ghost use Rattle.std.specs.Prelude.{◌≡◌, ◌≤◌, ◌⊎◌, ℕ, [], ◌∷◌, ◌++◌, List, All, OnOk, OnErr, IfOk, Err, length};
+ghost use Rattle.std.specs.Prelude.{◌≡◌, ◌≤◌, ◌⊎◌, ℕ, [], ◌∷◌, ◌++◌, List, All, OnOk, OnErr, IfOk, Err, Some, length};
 ghost use Rattle.mvt_codec.specs.Items.{IsItem};
 ghost use Rattle.tb_outside.specs.declared.spill.SpillErr.TheVariants as spill_errors;
+ghost use Rattle.tb_outside.specs.Spill.{Runs, SpillSeen};
 ghost use Rattle.feature_runs.specs.Added.{KeepsAdded, WereAdded};
 ghost use Rattle.feature_runs.specs.Entry.{Buffered, Entry, entry_of};
 ghost use Rattle.feature_runs.specs.Index.{entries_in, HoldsAll, IsLimited, IsWithin};
+ghost use Rattle.feature_runs.specs.Since.{IsSince, KeepsSince};
 ghost use Rattle.feature_runs.specs.Writing.{Adds, Flushes, Frames, IfHeld, IsSameBuffer, StaysOrWrites};
 
 use crate::item_writer::put_item;
@@ -42,6 +44,7 @@ impl RunBuffer {
     pub fn new(alloc: Global, limit: u64) -> Result<RunBuffer, Memory>
         ensures new { IfOk result (λ b. b ≡ record { limit = limit; runs = []; entries = [] }) }
         ensures told { IfOk result (λ b. (ended : List (List ℕ)) → WereAdded b ended []) }
+        ensures since { IfOk result (λ b. (start : Runs) (seen : SpillSeen) → seen.runs ≡ Some start → IsSince start seen b []) }
     {
         Ok(RunBuffer {
             limit,
@@ -66,6 +69,7 @@ impl RunBuffer {
         requires { IsItem item }
         ensures added { OnOk result (Adds (S.seen spill.old) (S.seen spill.new) self.old self.new (entry_of item)) }
         ensures told { OnOk result (KeepsAdded (S.seen spill.old) (S.seen spill.new) self.old self.new (entry_of item ∷ [])) }
+        ensures since { OnOk result (KeepsSince (S.seen spill.old) (S.seen spill.new) self.old self.new (entry_of item ∷ [])) }
         ensures memory { result ≡ Err spill_errors.Memory → StaysOrWrites (S.seen spill.old) (S.seen spill.new) self.old self.new }
         ensures frames { Frames (S.seen spill.old) (S.seen spill.new) result }
     {
@@ -116,6 +120,7 @@ impl RunBuffer {
     pub fn flush<S: Spill>(&mut self, spill: &mut S) -> Result<(), SpillErr>
         ensures flushed { OnOk result (Flushes (S.seen spill.old) (S.seen spill.new) self.old self.new) }
         ensures told { OnOk result (KeepsAdded (S.seen spill.old) (S.seen spill.new) self.old self.new []) }
+        ensures since { OnOk result (KeepsSince (S.seen spill.old) (S.seen spill.new) self.old self.new []) }
         ensures frames { Frames (S.seen spill.old) (S.seen spill.new) result }
         ensures memory { result ≡ Err spill_errors.Memory → IsSameBuffer self.old self.new }
     {

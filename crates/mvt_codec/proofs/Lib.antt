@@ -4,6 +4,7 @@ pub mod AgainPlaces
 pub mod AgainRows
 pub mod AgainTiles
 pub mod CountSteps
+pub mod GroupAgain
 pub mod GroupRows
 pub mod Growth
 pub mod ItemLengths

@@ -1,10 +1,13 @@
 -- The tile of some items: their rows, each in the layer of its key's number.
-use Rattle.std.specs.Prelude.{ℕ, zero, suc, ◌+◌, ◌==◌, List, [], ◌∷◌, ◌++◌, map, filter, length, All}
+use Rattle.std.specs.Prelude.{◌≡◌, ℕ, zero, suc, ◌+◌, ◌==◌, Ok, List, [], ◌∷◌, ◌++◌, map, filter, length, All}
+use Rattle.std.specs.List.{IsDistinct}
+use Rattle.std.specs.Str.{bytes_eq}
 use Rattle.mvt_codec.specs.declared.row.TileRow.{TileRow}
 use Rattle.mvt_codec.specs.declared.row.LayerRows.{LayerRows}
 use Rattle.mvt_codec.specs.declared.item.RunItem.{RunItem}
 use Rattle.mvt_codec.specs.Value.{IsWritable}
 use Rattle.mvt_codec.specs.Tile.{tile_text}
+use Rattle.mvt_codec.specs.Grammar.{tile_of}
 
 -- the rows that are written of a layer of this name: all of them, as they are
 abbrev pub post : List ℕ → List TileRow → List TileRow
@@ -41,3 +44,11 @@ text_of_items names items = tile_text (layers_of names items)
 -- each whole number among the values of an item's row is within its range
 abbrev pub IsWritableItem : RunItem → Type 0
 IsWritableItem item = All (λ a. IsWritable a.value) item.row.attributes
+
+-- names that layers of one tile may have: no two are the same
+abbrev pub AreNames : List (List ℕ) → Type 0
+AreNames names = IsDistinct bytes_eq names
+
+-- the bytes are read as these layers: each that has rows, with its name and its rows as their items stand
+abbrev pub IsReadAgain : List (List ℕ) → List RunItem → List ℕ → Type 0
+IsReadAgain names items bytes = tile_of bytes ≡ Ok (layers_of names items)

@@ -1,6 +1,7 @@
-ghost use Rattle.std.specs.Prelude.{◌≡◌, ◌<◌, length, All, IfOk, []};
+ghost use Rattle.std.specs.Prelude.{◌≡◌, ◌<◌, length, All, IfOk, OnOk, IsUtf8, ◌++◌, []};
 ghost use Rattle.mvt_codec.specs.Tile.{AreWritable};
-ghost use Rattle.mvt_codec.specs.Groups.{IsWritableItem, layers_of, named, slots, text_of_items};
+ghost use Rattle.mvt_codec.specs.Items.{IsItem, Fits};
+ghost use Rattle.mvt_codec.specs.Groups.{AreNames, IsReadAgain, IsWritableItem, layer_of, layers_of, named, slots, text_of_items};
 
 use crate::item::RunItem;
 use crate::row::{LayerRows, TileRow};
@@ -18,6 +19,7 @@ pub fn layers_of(
     requires { All (λ item. item.key.layer < length names.now) items }
     ensures layers { IfOk result (λ layers. layers ≡ layers_of names.now items) }
     ensures writable { All IsWritableItem items → IfOk result (λ layers. AreWritable layers) }
+    ensures texts { IfOk result (λ layers. All (λ layer. IsUtf8 layer.name) layers) }
 {
     let slots = empty_slots(alloc, names.len())?;
     let slots = filled_slots(slots, items.into_vec())?;
@@ -30,7 +32,9 @@ pub fn layers_of(
 pub fn encode_items(alloc: Global, names: &[Text], items: Seq<RunItem>) -> Result<Vec<u8>, Memory>
     requires layers { All (λ item. item.key.layer < length names.now) items }
     requires writable { All IsWritableItem items }
-    ensures { IfOk result (λ tile. tile.items ≡ text_of_items names.now items) }
+    ensures text { IfOk result (λ tile. tile.items ≡ text_of_items names.now items) }
+    // Where no two layers have one name, reading the bytes gives the rows of each layer again.
+    ensures again { AreNames names.now → All IsItem items → All Fits items → IfOk result (λ tile. IsReadAgain names.now items tile.items) }
 {
     let layers = layers_of(alloc, names, items)?;
     encode_tile(alloc, layers.as_slice())
@@ -69,7 +73,8 @@ fn named_layers(
     names: &[Text],
     layer_rows: Vec<Seq<TileRow>>,
 ) -> Result<Seq<LayerRows>, Memory>
-    ensures { IfOk result (λ layers. layers ≡ named names.now layer_rows.items) }
+    ensures layers { IfOk result (λ layers. layers ≡ named names.now layer_rows.items) }
+    ensures texts { IfOk result (λ layers. All (λ layer. IsUtf8 layer.name) layers) }
 {
     let mut layers = Vec::new(alloc);
     let mut rest = names;
@@ -77,9 +82,7 @@ fn named_layers(
         match rest.split_first() {
             None => return Ok(Seq::from_vec(layers)),
             Some((name, later)) => {
-                if !rows.as_slice().is_empty() {
-                    layers.push(layer_with(alloc, name, rows)?)?;
-                }
+                add_layer(&mut layers, alloc, name, rows)?;
                 rest = later;
             }
         }
@@ -87,8 +90,27 @@ fn named_layers(
     Ok(Seq::from_vec(layers))
 }
 
+// Adds the layer of this name, where it has rows.
+fn add_layer(
+    layers: &mut Vec<LayerRows>,
+    alloc: Global,
+    name: &Text,
+    rows: Seq<TileRow>,
+) -> Result<(), Memory>
+    ensures layers { OnOk result (layers.new.items ≡ layers.old.items ++ layer_of name.now rows) }
+    ensures texts { All (λ layer. IsUtf8 layer.name) layers.old.items → OnOk result (All (λ layer. IsUtf8 layer.name) layers.new.items) }
+{
+    if rows.as_slice().is_empty() {
+        return Ok(());
+    }
+    let layer = layer_with(alloc, name, rows)?;
+    layers.push(layer)?;
+    Ok(())
+}
+
 fn layer_with(alloc: Global, name: &Text, rows: Seq<TileRow>) -> Result<LayerRows, Memory>
     ensures name { IfOk result (λ layer. layer.name ≡ name.now) }
+    ensures utf8 { IfOk result (λ layer. IsUtf8 layer.name) }
     ensures extent { IfOk result (λ layer. layer.extent ≡ 4096) }
     ensures rows { IfOk result (λ layer. layer.rows ≡ rows) }
 {

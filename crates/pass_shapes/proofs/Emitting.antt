@@ -16,6 +16,7 @@ use Rattle.mvt_codec.specs.declared.item.RunItem.{RunItem}
 use Rattle.mvt_codec.proofs.ItemLengths.{item_len}
 use Rattle.feature_runs.specs.Entry.{Buffered, entry_of}
 use Rattle.feature_runs.specs.Added.{KeepsAdded}
+use Rattle.feature_runs.specs.Since.{KeepsSince}
 use Rattle.feature_runs.specs.Writing.{Adds, Frames}
 use Rattle.tile_model.specs.Items.{IsSoundItem}
 use Rattle.pass_shapes.specs.Emitting.{Emits}
@@ -29,9 +30,9 @@ is-item layers item len few h is low =
 
 -- one item was added
 pub emits-one : (parts : Parts) (item : RunItem) (old new : SpillSeen) (before after : Buffered) (r : Result ⊤ SpillErr) → IsSoundItem (length (layers_of parts)) item → IsItem item → OnOk r (Adds old new before after (entry_of item))
-    → OnOk r (KeepsAdded old new before after (entry_of item ∷ [])) → Frames old new r → Emits parts (item ∷ []) old new before after r
-emits-one parts item old new before after (Err e) sound whole adds keeps frames = record { ok = tt; frames = frames }
-emits-one parts item old new before after (Ok x) sound whole adds keeps frames = record {
+    → OnOk r (KeepsAdded old new before after (entry_of item ∷ [])) → OnOk r (KeepsSince old new before after (entry_of item ∷ [])) → Frames old new r → Emits parts (item ∷ []) old new before after r
+emits-one parts item old new before after (Err e) sound whole adds keeps since frames = record { ok = tt; frames = frames }
+emits-one parts item old new before after (Ok x) sound whole adds keeps since frames = record {
   ok = record {
     items = item ∷ [];
     same = IsPermutation-refl (item ∷ []);
@@ -39,6 +40,7 @@ emits-one parts item old new before after (Ok x) sound whole adds keeps frames =
     whole = All-cons IsItem item [] whole (All-nil IsItem);
     limit = elim adds [ inl (seen, holds) ↦ ap (λ (b : Buffered). b.limit) holds | inr (middle, full, written, holds) ↦ ap (λ (b : Buffered). b.limit) holds ∙ ap (λ (b : Buffered). b.limit) written.buffer ];
     keeps = keeps;
+    since = since;
   };
   frames = frames;
 }

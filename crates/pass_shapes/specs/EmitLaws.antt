@@ -15,6 +15,7 @@ use Rattle.mvt_codec.specs.declared.item.RunItem.{RunItem}
 use Rattle.mvt_codec.specs.Items.{IsItem}
 use Rattle.feature_runs.specs.Entry.{Buffered, Entry, entry_of}
 use Rattle.feature_runs.specs.Added.{WereAdded, AreThere, KeepsAdded}
+use Rattle.feature_runs.specs.Since.{IsSince, KeepsSince}
 use Rattle.feature_runs.specs.Writing.{KeepsEnded, Frames}
 use Rattle.tile_model.specs.Items.{IsSoundItem}
 use Rattle.pass_shapes.specs.Emitting.{Emitted, Emits}
@@ -61,9 +62,15 @@ keeps-on s t u b c d some more h k = λ runs added told were.
     let one = h runs added told were in
     subst (AreThere d u) (append_assoc added some more) (k one.runs (added ++ some) one.told one.added_are)
 
+pub since-none : (s : SpillSeen) (b : Buffered) → KeepsSince s s b b []
+since-none s b = λ start added is. subst (IsSince start s b) (sym (append-nil added)) is
+
+pub since-on : (s t u : SpillSeen) (b c d : Buffered) (some more : List Entry) → KeepsSince s t b c some → KeepsSince t u c d more → KeepsSince s u b d (some ++ more)
+since-on s t u b c d some more h k = λ start added is. subst (IsSince start u d) (append_assoc added some more) (k start (added ++ some) (h start added is))
+
 pub emits-none : (parts : Parts) (s : SpillSeen) (b : Buffered) → Emits {A = ⊤} parts [] s s b b (Ok tt)
 emits-none parts s b = record {
-  ok = record { items = []; same = IsPermutation-refl []; sound = All-nil (IsSoundItem (length (layers_of parts))); whole = All-nil IsItem; limit = refl; keeps = keeps-none s b };
+  ok = record { items = []; same = IsPermutation-refl []; sound = All-nil (IsSoundItem (length (layers_of parts))); whole = All-nil IsItem; limit = refl; keeps = keeps-none s b; since = since-none s b };
   frames = frames-none s;
 }
 
@@ -75,6 +82,7 @@ emitted-on parts one other s t u b c d h k = record {
   whole = All-append IsItem h.items k.items h.whole k.whole;
   limit = k.limit ∙ h.limit;
   keeps = subst (KeepsAdded s u b d) (sym (map-append entry_of h.items k.items)) (keeps-on s t u b c d (map entry_of h.items) (map entry_of k.items) h.keeps k.keeps);
+  since = subst (KeepsSince s u b d) (sym (map-append entry_of h.items k.items)) (since-on s t u b c d (map entry_of h.items) (map entry_of k.items) h.since k.since);
 }
 
 -- some behind others, or a refusal behind some
@@ -92,7 +100,7 @@ emits-as parts one other s t b c r same h = subst (λ xs. Emits parts xs s t b c
 -- another list of the same items
 pub emits-permuted : {A : Type 0} (parts : Parts) (one other : List RunItem) (s t : SpillSeen) (b c : Buffered) (r : Result A SpillErr) → IsPermutation other one → Emits parts one s t b c r → Emits parts other s t b c r
 emits-permuted parts one other s t b c (Ok x) same h = record {
-  ok = record { items = h.ok.items; same = IsPermutation-trans other one h.ok.items same h.ok.same; sound = h.ok.sound; whole = h.ok.whole; limit = h.ok.limit; keeps = h.ok.keeps };
+  ok = record { items = h.ok.items; same = IsPermutation-trans other one h.ok.items same h.ok.same; sound = h.ok.sound; whole = h.ok.whole; limit = h.ok.limit; keeps = h.ok.keeps; since = h.ok.since };
   frames = h.frames;
 }
 emits-permuted parts one other s t b c (Err e) same h = record { ok = tt; frames = h.frames }

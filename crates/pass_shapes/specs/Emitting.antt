@@ -8,6 +8,7 @@ use Rattle.mvt_codec.specs.declared.item.RunItem.{RunItem}
 use Rattle.mvt_codec.specs.Items.{IsItem}
 use Rattle.feature_runs.specs.Entry.{Buffered, entry_of}
 use Rattle.feature_runs.specs.Added.{KeepsAdded}
+use Rattle.feature_runs.specs.Since.{KeepsSince}
 use Rattle.feature_runs.specs.Writing.{Frames}
 use Rattle.tile_model.specs.Items.{AreSound}
 
@@ -19,6 +20,7 @@ pub record Emitted (parts : Parts) (wanted : List RunItem) (old new : SpillSeen)
   pub whole : All IsItem items
   pub limit : after.limit ≡ before.limit
   pub keeps : KeepsAdded old new before after (map entry_of items)
+  pub since : KeepsSince old new before after (map entry_of items)
 
 -- They were, or the spill failed, or memory wants. On every answer the runs that the spill had ended stay.
 pub record Emits {A : Type 0} (parts : Parts) (wanted : List RunItem) (old new : SpillSeen) (before after : Buffered) (result : Result A SpillErr) : Type 0 where

@@ -11,7 +11,7 @@ use Rattle.mvt_codec.specs.declared.row.TileRow.{TileRow}
 use Rattle.mvt_codec.specs.declared.item.ItemKey.{ItemKey}
 use Rattle.mvt_codec.specs.declared.item.RunItem.{RunItem}
 use Rattle.sorted_lists.specs.Sorting.{sorted_by, KeysDiffer, TiesAreEqual}
-use Rattle.sorted_lists.specs.Grouping.{grouped_by, AreGroups}
+use Rattle.sorted_lists.specs.Grouping.{grouped_by, elements_of, AreGroups}
 use Rattle.sorted_lists.proofs.Orders.{each_weaker, Pairs, pairs_from_AllPairs, AllPairs_from_pairs}
 use Rattle.sorted_lists.proofs.Kept.{contains-flat_map, contains-filter}
 use Rattle.sorted_lists.proofs.Members.{members}
@@ -159,6 +159,9 @@ keys-differ features min max h differ =
 pub ties : (features : List Feature) (min max : ℕ) → max ≤ last_zoom → KeysDiffer name_of features → TiesAreEqual item_less (built_items features min max)
 ties features min max h differ =
     Keys.differ (λ (item : RunItem). item.key) key_cmp (built_items features min max) total exact (keys-differ features min max h differ)
+
+pub kept : (features : List Feature) (min max : ℕ) → max ≤ last_zoom → IsPermutation (built_items features min max) (elements_of (built_tiles features min max))
+kept features min max h = (Tiled.tells item_less tile_of number_of item_at features (tiles_between min max) (are-tiles features min max h)).same
 
 module _ (features : List Feature) (min max : ℕ) (items : List RunItem) (h : max ≤ last_zoom) (differ : KeysDiffer name_of features) (m : IsPermutation (built_items features min max) items) where
   pub grouped : IsSortedBy item_less items → grouped_by tile_of items ≡ built_tiles features min max

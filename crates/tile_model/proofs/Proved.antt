@@ -33,6 +33,7 @@ build = record {
   emitted = λ features met min max h within m. Built.all-emitted features met min max within m;
   told_zoom = Built.told-zoom;
   differ = Built.keys-differ;
+  kept = Built.kept;
   grouped = λ features min max items h differ m up. Built.grouped features min max items h differ m up;
   sorted = λ features min max items h differ m. Built.sorted features min max items h differ m;
   told = λ features min max items groups h differ m are. Built.told features min max items h differ m groups are;

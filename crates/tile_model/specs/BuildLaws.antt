@@ -3,7 +3,7 @@ use Rattle.std.specs.Prelude.{◌≡◌, ℕ, ◌+◌, ◌-◌, ◌≤◌, List,
 use Rattle.std.specs.List.{range_with_len}
 use Rattle.std.specs.List.Sorted.{IsSortedBy, IsPermutation}
 use Rattle.sorted_lists.specs.Sorting.{sorted_by, KeysDiffer}
-use Rattle.sorted_lists.specs.Grouping.{grouped_by, AreGroups}
+use Rattle.sorted_lists.specs.Grouping.{grouped_by, elements_of, AreGroups}
 use Rattle.tb_types.specs.declared.tile.TileXyz.{TileXyz}
 use Rattle.hilbert_ids.specs.Ids.{number_of, first_id_of, last_zoom}
 use Rattle.mvt_codec.specs.declared.item.RunItem.{RunItem}
@@ -26,6 +26,8 @@ pub record BuildLaws : Type 0 where
   pub told_zoom : (f : Feature) (z : ℕ) (tiles : List TileXyz) → f.min ≤ z → z ≤ f.max → IsTold f z tiles → IsPermutation (zoom_items f z) (filter_map (item_at f) tiles)
   -- no two items have one key, where no two features have one name
   pub differ : (features : List Feature) (min max : ℕ) → max ≤ last_zoom → KeysDiffer name_of features → KeysDiffer (λ (item : RunItem). item.key) (built_items features min max)
+  -- The items of all tiles, tile after tile, are all items, each once.
+  pub kept : (features : List Feature) (min max : ℕ) → max ≤ last_zoom → IsPermutation (built_items features min max) (elements_of (built_tiles features min max))
   -- Items that are sorted by key and grouped by tile are the tiles: any list in order that has all items,
   pub grouped : (features : List Feature) (min max : ℕ) (items : List RunItem) → max ≤ last_zoom → KeysDiffer name_of features
       → IsPermutation (built_items features min max) items → IsSortedBy item_less items → grouped_by tile_of items ≡ built_tiles features min max

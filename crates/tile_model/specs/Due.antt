@@ -20,6 +20,8 @@ use Rattle.tile_model.specs.declared.from.ProfileFrom.TheVariants as profiles
 use Rattle.tile_model.specs.declared.stop.Stop.{Stop}
 use Rattle.tile_model.specs.declared.stop.Stop.TheVariants as stops
 use Rattle.tile_model.specs.Objects.{Objects, extract_in}
+use Rattle.tile_model.specs.Trial.{trial_text}
+use Rattle.sorted_lists.specs.Grouping.{elements_of}
 use Rattle.mvt_codec.specs.declared.item.RunItem.{RunItem}
 use Rattle.tile_model.specs.Contents.{Content, contents_at}
 use Rattle.tile_model.specs.Bounds.{first_box}
@@ -27,8 +29,10 @@ use Rattle.tile_model.specs.Extract.{shape_of}
 use Rattle.tile_model.specs.Map.{blocks_in, groups_of, layer_names, meta_of, tiles_from}
 use Rattle.tile_model.specs.Needs.{largest, block_needs, relation_needs, first_over}
 
--- an archive: its tiles, what it holds, and its bytes
+-- an archive: the names of its layers and the items of each tile, its tiles, what it holds, and its bytes
 pub record Built : Type 0 where
+  pub names : List (List ℕ)
+  pub groups : List (ℕ × List RunItem)
   pub tiles : List Tile
   pub totals : Totals
   pub bytes : List ℕ
@@ -37,12 +41,23 @@ pub record Built : Type 0 where
 abbrev pub Due : Type 0
 Due = Result Built Stop
 
--- the archive of tiles, and what it holds
+-- all items of an archive, tile after tile
+abbrev pub items_of : Built → List RunItem
+items_of built = elements_of built.groups
+
+-- what an archive of tiles holds
 abbrev pub totals_of : Meta → List Tile → Totals
 totals_of meta tiles = record { tiles = length tiles; entries = length (entries_of tiles); contents = length (archives.contents_of tiles); bytes = length (archive_text meta tiles) }
 
-abbrev pub built_of : Meta → List Tile → Built
-built_of meta tiles = record { tiles = tiles; totals = totals_of meta tiles; bytes = archive_text meta tiles }
+-- the archive of the items of each tile, by the names of all layers
+abbrev pub built_of : Meta → List (List ℕ) → List (ℕ × List RunItem) → Built
+built_of meta names groups = record {
+  names = names;
+  groups = groups;
+  tiles = tiles_from names groups;
+  totals = totals_of meta (tiles_from names groups);
+  bytes = archive_text meta (tiles_from names groups);
+}
 
 -- a need that is above the part that there is for it, or what is due else
 abbrev pub if_within : ℕ → Stage → ℕ → Due → Due
@@ -54,7 +69,7 @@ if_small None built = Ok built
 if_small (Some need) built = Err (stops.Budget stages.Tile need)
 
 abbrev pub due_of_groups : ℕ → Meta → List (List ℕ) → List (ℕ × List RunItem) → Due
-due_of_groups part meta names groups = if_small (first_over part groups) (built_of meta (tiles_from names groups))
+due_of_groups part meta names groups = if_small (first_over part groups) (built_of meta names groups)
 
 -- The largest need of a kept relation, or the tiles of what blocks hold, and the box of the first header.
 abbrev pub due_of_blocks : Parts → ℕ → List Content → Due
@@ -80,10 +95,11 @@ abbrev pub due_of_profile : ℕ → Result Parts Fault → Option (List ℕ) →
 due_of_profile part (Err fault) extract = Some (Err (stops.Profile fault.0 fault.1))
 due_of_profile part (Ok parts) extract = option_map (due_of_extract parts part) extract
 
--- the profile, where its text is told: that of a key needs none
+-- the profile, where its text is told: that of a key and that of trials need none
 abbrev pub parts_from : ProfileFrom → Option (List ℕ) → Option (Result Parts Fault)
 parts_from (profiles.OneRule key) text = Some (Ok (one_rule_of key))
 parts_from profiles.Read text = option_map profile_of text
+parts_from profiles.Trial text = Some (profile_of trial_text)
 
 -- what is due within a budget, as far as profile and extract are told
 abbrev pub due_of : ProfileFrom → ℕ → Option (List ℕ) → Option (List ℕ) → Option Due

@@ -25,3 +25,5 @@ pub mod Objects
 pub mod Stops
 pub mod From
 pub mod Due
+pub mod Trial
+pub mod Loads

@@ -1,5 +1,5 @@
 -- What a build needs of memory, in bytes: for its blocks, its kept relations and its tiles.
-use Rattle.std.specs.Prelude.{ℕ, max, nat_lt, if◌then◌else◌, Bool, true, false, Option, None, Some, List, [], ◌∷◌, length, map, filter, filter_map, flat_map, sum_by}
+use Rattle.std.specs.Prelude.{ℕ, ◌/◌, max, nat_lt, if◌then◌else◌, Bool, true, false, Option, None, Some, List, [], ◌∷◌, length, map, filter, filter_map, flat_map, sum_by}
 use Rattle.tb_types.specs.Needs.{block_need, relation_need, group_need}
 use Rattle.tb_types.specs.declared.element.OsmId.{OsmId}
 use Rattle.pbf_blobs.specs.declared.block.BlockAt.{BlockAt}
@@ -48,3 +48,7 @@ tile_need group = group_need (length (items_bytes group.1))
 abbrev pub first_over : ℕ → List (ℕ × List RunItem) → Option ℕ
 first_over part [] = None
 first_over part (group ∷ groups) = if nat_lt part (tile_need group) then Some (tile_need group) else first_over part groups
+
+-- how long a run may be, in bytes: the lanes share the quarter of a budget that isn't the part of blocks, relations and tiles
+abbrev pub run_limit : ℕ → ℕ → ℕ
+run_limit budget lanes = budget / 4 / lanes

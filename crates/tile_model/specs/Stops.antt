@@ -1,5 +1,5 @@
 -- What ends a build, and why it came.
-use Rattle.std.specs.Prelude.{ℕ, Bool, true, false}
+use Rattle.std.specs.Prelude.{ℕ}
 use Rattle.tb_types.specs.declared.trouble.Stage.TheVariants as stages
 use Rattle.tb_types.specs.declared.trouble.Whom.{Whom}
 use Rattle.tb_types.specs.declared.trouble.Whom.TheVariants as whom

@@ -1,8 +1,7 @@
 -- Worked cases of needs: a block at the part and one byte above it, blocks that aren't read, and the first tile that needs too much.
 use Rattle.std.specs.Prelude.{◌≡◌, ℕ, pos, None, Some, List, [], ◌∷◌, map}
-use Rattle.tb_types.specs.Needs.{batch_part, block_need}
+use Rattle.tb_types.specs.Needs.{batch_part}
 use Rattle.tb_types.specs.declared.element.Kind.TheVariants as element_kinds
-use Rattle.tb_types.specs.declared.trouble.Stage.TheVariants as stages
 use Rattle.pbf_blobs.specs.declared.block.BlockAt.{BlockAt}
 use Rattle.pbf_blobs.specs.declared.block.BlockKind.{BlockKind}
 use Rattle.pbf_blobs.specs.declared.block.BlockKind.TheVariants as kinds

@@ -1,5 +1,5 @@
 -- Worked cases: which ways a relation has, and what area.
-use Rattle.std.specs.Prelude.{◌≡◌, ℕ, pos, unsigned_abs, ◌==◌, if◌then◌else◌, Option, None, Some, List, [], ◌∷◌}
+use Rattle.std.specs.Prelude.{◌≡◌, ℕ, unsigned_abs, ◌==◌, if◌then◌else◌, Option, None, Some, List, [], ◌∷◌}
 use Rattle.tb_types.specs.declared.element.Kind.{Kind}
 use Rattle.tb_types.specs.declared.element.Kind.TheVariants as kinds
 use Rattle.tb_types.specs.declared.element.OsmId.{OsmId}

@@ -7,4 +7,6 @@ pub enum ProfileFrom {
     Read,
     /// One rule: the nodes that have this key, with its value as their one attribute, at zoom 0. The key isn't empty.
     OneRule(Text),
+    /// The profile of trials, whose text is `trial_text`.
+    Trial,
 }

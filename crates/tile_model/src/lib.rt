@@ -14,6 +14,7 @@ mod reach;
 mod stop;
 #[cfg(test)]
 mod tests;
+mod trial;
 mod worked;
 mod world;
 
@@ -22,5 +23,6 @@ pub use laws::{build_laws, differ_laws, extract_laws, point_laws, tile_laws};
 pub use order::{sort_items, tile_len};
 pub use reach::{Reach, Strips, from_corner, reach_of_point};
 pub use stop::Stop;
+pub use trial::trial_text;
 pub use worked::worked_tiles;
 pub use world::{Origin, WorldShape};

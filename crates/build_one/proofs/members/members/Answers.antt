@@ -19,7 +19,7 @@ pub loop-block-preserved : goal.loop-block-preserved
 loop-block-preserved g c =
     let loaded = c.in-Ok.ensures {u = tt} in
     passing-next (are-refs c.args.profile.now c.args.ways.now) c.args.blocks.now (g.R.Source.seen c.args.reader.now) (g.R.Source.seen c.loop-block.reader) (g.R.Source.seen c.load_block.new.reader) c.loop-block.block-index _ c.loop-block.ids.items c.put_needed.new.ids.items
-    c.in-Ok.elements c.loop-block-test.true c.loop-block.invariant loaded.told loaded.bytes loaded.counts
+    c.in-Ok.elements c.loop-block-test.true c.loop-block.invariant loaded.told loaded.bytes loaded.counts loaded.loads
     (refs-next c.args.profile.now c.args.ways.now c.loop-block.ids.items c.put_needed.new.ids.items _ c.in-Ok.elements
     (subst (λ (ways : List WayEl). c.put_needed.new.ids.items ≡ c.loop-block.ids.items ++ entries_of (flat_map (needed_refs c.args.profile.now (is_needed c.args.ways.now)) ways)) c.as_slice.ensures (c.in-Ok-put_needed.ensures {u = tt})))
 

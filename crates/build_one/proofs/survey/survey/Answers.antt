@@ -1,5 +1,5 @@
 use Rattle.std.proofs.Common.{rules}
-use Rattle.build_one.proofs.Surveying.{surveying-start, surveying-next, whole-found, within-block}
+use Rattle.build_one.proofs.Surveying.{surveying-start, surveying-next, whole-found, whole-log, within-block}
 use Rattle.build_one.proofs.survey.survey.Goals as goal
 
 pub loop-block-init : goal.loop-block-init
@@ -14,8 +14,12 @@ pub loop-block-preserved : goal.loop-block-preserved
 loop-block-preserved g c =
     let answered = c.in-Ok.ensures {u = tt} in
     surveying-next c.args.profile.now c.args.blocks.now (g.R.Source.seen c.args.reader.now) (g.R.Source.seen c.loop-block.reader) (g.R.Source.seen c.take_block.new.reader) c.loop-block.block-index _ c.loop-block.found c.take_block.new.found
-    c.loop-block-test.true c.requires.within c.loop-block.invariant answered.told answered.steps answered.bytes answered.counts (answered.ready c.loop-block.invariant.ready)
+    c.loop-block-test.true c.requires.within c.loop-block.invariant answered.told answered.steps answered.lists answered.loads answered.bytes answered.counts (answered.ready c.loop-block.invariant.ready)
 
 pub returns-in-None-clause-told : goal.returns-in-None-clause-told
 returns-in-None-clause-told g c =
     whole-found c.args.profile.now c.args.blocks.now (g.R.Source.seen c.args.reader.now) (g.R.Source.seen c.loop-block.reader) c.loop-block.block-index c.loop-block.found c.loop-block-test.false c.requires.numbered c.loop-block.invariant (search rules)
+
+pub returns-in-None-clause-loads : goal.returns-in-None-clause-loads
+returns-in-None-clause-loads g c =
+    whole-log c.args.profile.now c.args.blocks.now (g.R.Source.seen c.args.reader.now) (g.R.Source.seen c.loop-block.reader) c.loop-block.block-index c.loop-block.found c.loop-block-test.false c.loop-block.invariant

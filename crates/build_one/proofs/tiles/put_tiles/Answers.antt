@@ -37,7 +37,7 @@ tiles-preserved g c =
     let n = objects_of g.S.Spill.seen c.next_group.new.lanes c.next_group.new.spool in
     let answer = subst (λ (o : Option Group). IfNext now n c.args.part c.tiles.merge c.next_group.new.self (Ok o)) c.in-Ok-Some.field-0-is c.in-Ok-Some.ensures.answer in
     walk-next c.args.names.now c.args.part c.args.merge.now c.args.writer.now (objects_of g.S.Spill.seen c.args.lanes.now c.args.spool.now) c.tiles.merge c.tiles.writer now c.tiles.invariant n c.next_group.new.self c.in-Ok-Some.group answer.0 answer.1
-    c.put_tile.new.writer (g.S.Spill.seen c.put_tile.new.spool) (c.in-Ok.ensures {u = tt})
+    c.put_tile.new.writer (g.S.Spill.seen c.put_tile.new.spool) (c.in-Ok.ensures {u = tt}).written (c.in-Ok.ensures {u = tt}).decoded
 
 pub returns-in-Err-put_tile : goal.returns-in-Err-put_tile
 returns-in-Err-put_tile g c =
@@ -45,7 +45,7 @@ returns-in-Err-put_tile g c =
     let n = objects_of g.S.Spill.seen c.next_group.new.lanes c.next_group.new.spool in
     let answer = subst (λ (o : Option Group). IfNext now n c.args.part c.tiles.merge c.next_group.new.self (Ok o)) c.in-Ok-Some.field-0-is c.in-Ok-Some.ensures.answer in
     walk-tile-refused c.args.names.now c.args.part c.args.merge.now c.args.writer.now (objects_of g.S.Spill.seen c.args.lanes.now c.args.spool.now) c.tiles.merge c.tiles.writer now c.tiles.invariant n c.next_group.new.self c.in-Ok-Some.group answer.0 answer.1
-    c.put_tile.new.writer (g.S.Spill.seen c.put_tile.new.spool) c.in-Err-put_tile.e (c.in-Err-put_tile.ensures {u = tt})
+    c.put_tile.new.writer (g.S.Spill.seen c.put_tile.new.spool) c.in-Err-put_tile.e (c.in-Err-put_tile.ensures {u = tt}).written
 
 pub returns-in-Ok-None : goal.returns-in-Ok-None
 returns-in-Ok-None g c =

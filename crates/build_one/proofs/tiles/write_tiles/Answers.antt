@@ -1,4 +1,5 @@
 use Rattle.std.proofs.Common.{length, sym, ap, subst, ◌∙◌}
+use Rattle.mvt_codec.specs.Groups.{AreNames}
 use Rattle.run_merge.specs.Answers.{named_runs}
 use Rattle.run_merge.specs.Cursors.{AreTold}
 use Rattle.run_merge.specs.Objects.{objects_of}
@@ -35,3 +36,6 @@ returns g c =
     map-stopped c.args.part (objects_of seen c.args.lanes.now c.args.spool.now) (objects_of seen c.start.new.lanes c.start.new.spool) (objects_of seen c.put_tiles.new.lanes c.put_tiles.new.spool) c.in-Ok.ensures.keeps started.counts
     c.args.profile.now c.args.meta c.as_slice-names.result.now c.args.runs.now (length c.as_slice-names.result.now) c.in-Ok.merge c.in_ok-writer.writer c.put_tiles.new.writer (c.as_slice-names.ensures.value ∙ c.in_ok-names.ensures {u = tt}) started
     c.in-Err-put_tiles.e (c.in-Err-put_tiles.ensures {u = tt})
+
+pub put_tiles-requires-clause-differ : goal.put_tiles-requires-clause-differ
+put_tiles-requires-clause-differ g c = subst AreNames (sym (c.as_slice-names.ensures.value ∙ c.in_ok-names.ensures {u = tt})) c.requires.sound.differ

@@ -4,5 +4,5 @@ use Rattle.build_one.proofs.ways.ways.Given as goal
 
 abbrev pub invariant-loop-block : goal.invariant-loop-block
 invariant-loop-block g l =
-    Passing (are-put l.profile (ways-put l.needed l.locations) (ways-made l.profile l.locations) (g.S.Spill.seen l.fn.lane.spill) l.fn.buffer) l.blocks (g.R.Source.seen l.fn.lane.reader) (g.R.Source.seen l.lane.reader) l.block-index
-    (l.entries.items, g.S.Spill.seen l.lane.spill, l.buffer)
+    Passing (are-put l.profile (ways-put l.needed l.locations) (ways-made l.profile l.locations) (g.S.Spill.seen l.fn.spill) l.fn.buffer) l.blocks (g.R.Source.seen l.fn.reader) (g.R.Source.seen l.reader) l.block-index
+    (l.entries.items, g.S.Spill.seen l.spill, l.buffer)

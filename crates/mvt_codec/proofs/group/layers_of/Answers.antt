@@ -19,7 +19,7 @@ pub returns-clause-layers : goal.returns-clause-layers
 returns-clause-layers c =
     let count = ap length (c.in_ok-slots.ensures {u = tt}) ∙ length-slots 0 _ [] in
     let rows = c.in_ok-slots-2.ensures {u = tt} ∙ ap (λ n. slots 0 n c.into_vec.result.items) count ∙ ap (slots 0 (length c.args.names.now)) c.into_vec.ensures in
-    IfOk-weaker c.named_layers.result _ _ (λ layers are. layers-are c.args.names.now c.args.items _ layers rows are) c.named_layers.ensures
+    IfOk-weaker c.named_layers.result _ _ (λ layers are. layers-are c.args.names.now c.args.items _ layers rows are) c.named_layers.ensures.layers
 
 pub returns-clause-writable : goal.returns-clause-writable
 returns-clause-writable c =

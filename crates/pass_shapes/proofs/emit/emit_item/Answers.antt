@@ -16,7 +16,7 @@ returns g c =
     let seen = g.S.Spill.seen in
     let low : c.row_len.result < 2 ^ 32 = search rules in
     let whole = is-item (length (layers_of c.args.profile.now)) c.args.item c.row_len.result c.requires.few c.requires.item c.row_len.ensures low in
-    emits-one c.args.profile.now c.args.item (seen c.args.spill.now) (seen c.add.new.spill) c.args.buffer.now c.add.new.self c.add.result c.requires.item whole c.add.ensures.added c.add.ensures.told c.add.ensures.frames
+    emits-one c.args.profile.now c.args.item (seen c.args.spill.now) (seen c.add.new.spill) c.args.buffer.now c.add.new.self c.add.result c.requires.item whole c.add.ensures.added c.add.ensures.told c.add.ensures.since c.add.ensures.frames
 
 pub returns-then-row_len-ge-ROW_LIMIT : goal.returns-then-row_len-ge-ROW_LIMIT
 returns-then-row_len-ge-ROW_LIMIT g c = emits-memory c.args.profile.now _ (g.S.Spill.seen c.args.spill.now) c.args.buffer.now c.args.buffer.now

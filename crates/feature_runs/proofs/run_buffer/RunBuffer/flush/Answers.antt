@@ -10,6 +10,7 @@ use Rattle.tb_outside.specs.Spill.{SpillSeen}
 use Rattle.feature_runs.specs.Entry.{IsInOrder, bytes_of}
 use Rattle.feature_runs.specs.Writing.{IsSameBuffer, IsWritten, Writes}
 use Rattle.feature_runs.proofs.AddedSteps.{flushes_keep}
+use Rattle.feature_runs.proofs.SinceSteps as since
 use Rattle.feature_runs.proofs.Order.{in_order}
 use Rattle.feature_runs.proofs.Limit.{still_limited, run_limited}
 use Rattle.feature_runs.proofs.Held.{made}
@@ -92,3 +93,6 @@ returns-clause-flushed g c =
 
 pub returns-clause-told : goal.returns-clause-told
 returns-clause-told g c = flushes_keep (returns-clause-flushed g c)
+
+pub returns-clause-since : goal.returns-clause-since
+returns-clause-since g c = since.flushes_keep (returns-clause-flushed g c)
