@@ -16,11 +16,11 @@ use Rattle.osm_elements.specs.Elements.{Element, node, osm_id}
 use Rattle.osm_elements.specs.Dense.{are_runs, first_run, tag_lists, no_tags_for, dense_tags, nodes_along, dense_lists, dense_of}
 use Rattle.osm_elements.specs.Block.{Found, joined}
 use Rattle.osm_elements.specs.Runs.{check_of}
+use Rattle.osm_elements.specs.Walks.{merged_fields_in, dense_in}
 use Rattle.osm_elements.specs.Lists.{lists_in, lists_of, with_node, bare_nodes, tagged_nodes, nodes_of, place_node}
-use Rattle.osm_elements.specs.declared.fault.BlockErr.{BlockErr}
-use Rattle.osm_elements.specs.declared.found.FoundSoFar.{FoundSoFar}
-use Rattle.osm_elements.specs.SoFar.{Adds, After, Ends, Grows}
-use Rattle.osm_elements.proofs.Joins.{Going, going_step, going_err, going_end}
+use Rattle.osm_elements.specs.declared.taker.WalkErr.{WalkErr}
+use Rattle.osm_elements.specs.SoFar.{Adds, Ends, Grows}
+use Rattle.osm_elements.proofs.Joins.{Going, going_step, going_err, going_end, going_last}
 
 abbrev fine : {A : Type 0} → A → Result A Why
 fine x = Ok x
@@ -122,6 +122,14 @@ pub dense_of_checked : (strings : List (List ℕ)) (granularity : Granularity) (
 unfolding dense_of
 dense_of_checked strings granularity fields = numbers-same strings granularity (numbers 1 fields) (numbers 8 fields) (numbers 9 fields) (numbers 10 fields)
 
+-- the dense nodes of a group
+pub dense_in_checked : (strings : List (List ℕ)) (granularity : Granularity) (group : List ℕ) → dense_in strings granularity group ≡ merged_fields_in 2 group >>= lists_in strings >>= nodes_of strings granularity
+dense_in_checked strings granularity group = go (merged_fields_in 2 group)
+  where
+    go : (r : Result (List Entry) Why) → r >>= dense_of strings granularity ≡ r >>= lists_in strings >>= nodes_of strings granularity
+    go (Ok fields) = dense_of_checked strings granularity fields
+    go (Err why) = refl
+
 cons-joined : (x : Element) (r : Found) → r >>= (λ later. Ok (x ∷ later)) ≡ joined (Ok (x ∷ [])) r
 cons-joined x (Ok later) = refl
 cons-joined x (Err why) = refl
@@ -139,51 +147,39 @@ no_tagged strings granularity (id ∷ ids) (lat ∷ lats) [] pairs h = refl
 no_tagged strings granularity (id ∷ ids) (lat ∷ lats) (lon ∷ lons) pairs h = absurd (omega (arith, h))
 
 -- the node of what was read at a place
-pub place_read : (granularity : Granularity) (d : Dense) (i : ℕ) (id lat lon : ℤ) (its_id : OsmId) (at : Option LatLon) (tags : List Tag) → i < length d.ids.items → i < length d.lats.items → i < length d.lons.items
-    → id ≡ get_or d.ids.items i id → lat ≡ get_or d.lats.items i lat → lon ≡ get_or d.lons.items i lon → its_id ≡ osm_id id → at ≡ place granularity lat lon → node its_id at tags ≡ place_node granularity d i tags
+pub place_read : (granularity : Granularity) (d : Dense) (i : ℕ) (id lat lon : ℤ) (its_id : OsmId) (at : Option LatLon) (tags : List Tag) → i < length d.ids.items.items → i < length d.lats.items.items → i < length d.lons.items.items
+    → id ≡ get_or d.ids.items.items i id → lat ≡ get_or d.lats.items.items i lat → lon ≡ get_or d.lons.items.items i lon → its_id ≡ osm_id id → at ≡ place granularity lat lon → node its_id at tags ≡ place_node granularity d i tags
 place_read granularity d i id lat lon its_id at tags h k l e f g same_id same_at =
-    let ids : id ≡ get_or d.ids.items i (pos 0) = e ∙ get_or_default d.ids.items i id (pos 0) h in
-    let lats : lat ≡ get_or d.lats.items i (pos 0) = f ∙ get_or_default d.lats.items i lat (pos 0) k in
-    let lons : lon ≡ get_or d.lons.items i (pos 0) = g ∙ get_or_default d.lons.items i lon (pos 0) l in
-    ap (λ x. node x at tags) (same_id ∙ ap osm_id ids) ∙ ap (λ x. node (osm_id (get_or d.ids.items i (pos 0))) x tags) (same_at ∙ (ap (λ x. place granularity x lon) lats ∙ ap (place granularity (get_or d.lats.items i (pos 0))) lons))
+    let ids : id ≡ get_or d.ids.items.items i (pos 0) = e ∙ get_or_default d.ids.items.items i id (pos 0) h in
+    let lats : lat ≡ get_or d.lats.items.items i (pos 0) = f ∙ get_or_default d.lats.items.items i lat (pos 0) k in
+    let lons : lon ≡ get_or d.lons.items.items i (pos 0) = g ∙ get_or_default d.lons.items.items i lon (pos 0) l in
+    ap (λ x. node x at tags) (same_id ∙ ap osm_id ids) ∙ ap (λ x. node (osm_id (get_or d.ids.items.items i (pos 0))) x tags) (same_at ∙ (ap (λ x. place granularity x lon) lats ∙ ap (place granularity (get_or d.lats.items.items i (pos 0))) lons))
 
 -- Nodes place by place: what is left at a place of the lists.
-module _ (granularity : Granularity) (d : Dense) (start now : FoundSoFar) (all : Found) where
+module _ (granularity : Granularity) (d : Dense) where
   abbrev pub bare_from : ℕ → List Element
-  bare_from i = bare_nodes granularity (drop i d.ids.items) (drop i d.lats.items) (drop i d.lons.items)
+  bare_from i = bare_nodes granularity (drop i d.ids.items.items) (drop i d.lats.items.items) (drop i d.lons.items.items)
 
   abbrev pub tagged_from : List (List ℕ) → ℕ → List ℕ → Found
-  tagged_from strings i pairs = tagged_nodes strings granularity (drop i d.ids.items) (drop i d.lats.items) (drop i d.lons.items) pairs
+  tagged_from strings i pairs = tagged_nodes strings granularity (drop i d.ids.items.items) (drop i d.lats.items.items) (drop i d.lons.items.items) pairs
 
   abbrev pub places : ℕ
-  places = min (min (length d.ids.items) (length d.lats.items)) (length d.lons.items)
+  places = min (min (length d.ids.items.items) (length d.lats.items.items)) (length d.lons.items.items)
 
-  past : (i : ℕ) → places ≤ i → min (min (length (drop i d.ids.items)) (length (drop i d.lats.items))) (length (drop i d.lons.items)) ≡ 0
-  past i h = omega (arith, h, length-drop i d.ids.items, length-drop i d.lats.items, length-drop i d.lons.items)
+  past : (i : ℕ) → places ≤ i → min (min (length (drop i d.ids.items.items)) (length (drop i d.lats.items.items))) (length (drop i d.lons.items.items)) ≡ 0
+  past i h = omega (arith, h, length-drop i d.ids.items.items, length-drop i d.lats.items.items, length-drop i d.lons.items.items)
 
   bare_next : (i : ℕ) → i < places → bare_from i ≡ place_node granularity d i [] ∷ bare_from (i + 1)
   bare_next i h =
-      ap (λ xs. bare_nodes granularity xs (drop i d.lats.items) (drop i d.lons.items)) (drop_more d.ids.items i (pos 0) (omega (arith, h)))
-      ∙ (ap (λ xs. bare_nodes granularity (get_or d.ids.items i (pos 0) ∷ drop (i + 1) d.ids.items) xs (drop i d.lons.items)) (drop_more d.lats.items i (pos 0) (omega (arith, h)))
-      ∙ ap (λ xs. bare_nodes granularity (get_or d.ids.items i (pos 0) ∷ drop (i + 1) d.ids.items) (get_or d.lats.items i (pos 0) ∷ drop (i + 1) d.lats.items) xs) (drop_more d.lons.items i (pos 0) (omega (arith, h))))
+      ap (λ xs. bare_nodes granularity xs (drop i d.lats.items.items) (drop i d.lons.items.items)) (drop_more d.ids.items.items i (pos 0) (omega (arith, h)))
+      ∙ (ap (λ xs. bare_nodes granularity (get_or d.ids.items.items i (pos 0) ∷ drop (i + 1) d.ids.items.items) xs (drop i d.lons.items.items)) (drop_more d.lats.items.items i (pos 0) (omega (arith, h)))
+      ∙ ap (λ xs. bare_nodes granularity (get_or d.ids.items.items i (pos 0) ∷ drop (i + 1) d.ids.items.items) (get_or d.lats.items.items i (pos 0) ∷ drop (i + 1) d.lats.items.items) xs) (drop_more d.lons.items.items i (pos 0) (omega (arith, h))))
 
   tagged_next : (strings : List (List ℕ)) (i : ℕ) (pairs : List ℕ) → i < places → tagged_from strings i pairs ≡ first_run strings [] pairs >>= with_node (place_node granularity d i) (tagged_from strings (i + 1))
   tagged_next strings i pairs h =
-      ap (λ xs. tagged_nodes strings granularity xs (drop i d.lats.items) (drop i d.lons.items) pairs) (drop_more d.ids.items i (pos 0) (omega (arith, h)))
-      ∙ (ap (λ xs. tagged_nodes strings granularity (get_or d.ids.items i (pos 0) ∷ drop (i + 1) d.ids.items) xs (drop i d.lons.items) pairs) (drop_more d.lats.items i (pos 0) (omega (arith, h)))
-      ∙ ap (λ xs. tagged_nodes strings granularity (get_or d.ids.items i (pos 0) ∷ drop (i + 1) d.ids.items) (get_or d.lats.items i (pos 0) ∷ drop (i + 1) d.lats.items) xs pairs) (drop_more d.lons.items i (pos 0) (omega (arith, h))))
-
-  pub bare_read : (next : FoundSoFar) (i : ℕ) → i < places → Going start now (Ok (bare_from i)) all → Grows now next (Ok (place_node granularity d i [] ∷ [])) → Going start next (Ok (bare_from (i + 1))) all
-  bare_read next i h going grows =
-      going_step start now next (Ok (place_node granularity d i [] ∷ [])) (Ok (bare_from (i + 1))) all (subst (λ x. Going start now (Ok x) all) (bare_next i h) going) grows
-
-  pub bare_stops : (e : BlockErr) (i : ℕ) → i < places → Going start now (Ok (bare_from i)) all → Ends now e (Ok (place_node granularity d i [] ∷ [])) → Ends start e all
-  bare_stops e i h going ends =
-      going_err start now e (Ok (place_node granularity d i [] ∷ [])) (Ok (bare_from (i + 1))) all (subst (λ x. Going start now (Ok x) all) (bare_next i h) going) ends
-
-  pub bare_end : (i : ℕ) → places ≤ i → Going start now (Ok (bare_from i)) all → Grows start now all
-  bare_end i h going =
-      going_end start now all (subst (λ x. Going start now (Ok x) all) (no_bare granularity (drop i d.ids.items) (drop i d.lats.items) (drop i d.lons.items) (past i h)) going)
+      ap (λ xs. tagged_nodes strings granularity xs (drop i d.lats.items.items) (drop i d.lons.items.items) pairs) (drop_more d.ids.items.items i (pos 0) (omega (arith, h)))
+      ∙ (ap (λ xs. tagged_nodes strings granularity (get_or d.ids.items.items i (pos 0) ∷ drop (i + 1) d.ids.items.items) xs (drop i d.lons.items.items) pairs) (drop_more d.lats.items.items i (pos 0) (omega (arith, h)))
+      ∙ ap (λ xs. tagged_nodes strings granularity (get_or d.ids.items.items i (pos 0) ∷ drop (i + 1) d.ids.items.items) (get_or d.lats.items.items i (pos 0) ∷ drop (i + 1) d.lats.items.items) xs pairs) (drop_more d.lons.items.items i (pos 0) (omega (arith, h))))
 
   tagged_one : (strings : List (List ℕ)) (i : ℕ) (pairs : List ℕ) (t : List Tag) (behind : List ℕ) → i < places → first_run strings [] pairs ≡ Ok (t, behind)
       → tagged_from strings i pairs ≡ joined (Ok (place_node granularity d i t ∷ [])) (tagged_from strings (i + 1) behind)
@@ -191,22 +187,35 @@ module _ (granularity : Granularity) (d : Dense) (start now : FoundSoFar) (all :
       tagged_next strings i pairs h
       ∙ (ap (λ r. r >>= with_node (place_node granularity d i) (tagged_from strings (i + 1))) read ∙ cons-joined (place_node granularity d i t) (tagged_from strings (i + 1) behind))
 
-  pub tagged_read : (strings : List (List ℕ)) (next : FoundSoFar) (i : ℕ) (pairs : List ℕ) (t : List Tag) (behind : List ℕ) → i < places → first_run strings [] pairs ≡ Ok (t, behind)
-      → Going start now (tagged_from strings i pairs) all → Grows now next (Ok (place_node granularity d i t ∷ [])) → Going start next (tagged_from strings (i + 1) behind) all
-  tagged_read strings next i pairs t behind h read going grows =
-      going_step start now next (Ok (place_node granularity d i t ∷ [])) (tagged_from strings (i + 1) behind) all (subst (λ x. Going start now x all) (tagged_one strings i pairs t behind h read) going) grows
+  module _ {T Stop : Type 0} (steps : T → List Element → T → Type 0) (stops : T → List Element → T → Stop → Type 0) (old now : T × Option Why) (all : Found) where
+    pub bare_read : (next : T × Option Why) (i : ℕ) → i < places → Going steps stops old now (Ok (bare_from i)) all → Grows steps stops now next (Ok (place_node granularity d i [] ∷ [])) → Going steps stops old next (Ok (bare_from (i + 1))) all
+    bare_read next i h going grows =
+        going_step steps stops old now next (Ok (place_node granularity d i [] ∷ [])) (Ok (bare_from (i + 1))) all (subst (λ x. Going steps stops old now (Ok x) all) (bare_next i h) going) grows
 
-  pub tagged_stops : (strings : List (List ℕ)) (e : BlockErr) (i : ℕ) (pairs : List ℕ) (t : List Tag) (behind : List ℕ) → i < places → first_run strings [] pairs ≡ Ok (t, behind)
-      → Going start now (tagged_from strings i pairs) all → Ends now e (Ok (place_node granularity d i t ∷ [])) → Ends start e all
-  tagged_stops strings e i pairs t behind h read going ends =
-      going_err start now e (Ok (place_node granularity d i t ∷ [])) (tagged_from strings (i + 1) behind) all (subst (λ x. Going start now x all) (tagged_one strings i pairs t behind h read) going) ends
+    pub bare_stops : (taker : T) (e : WalkErr Stop) (i : ℕ) → i < places → Going steps stops old now (Ok (bare_from i)) all → Ends steps stops now taker e (Ok (place_node granularity d i [] ∷ [])) → Ends steps stops old taker e all
+    bare_stops taker e i h going ends =
+        going_err steps stops old now taker e (Ok (place_node granularity d i [] ∷ [])) (Ok (bare_from (i + 1))) all (subst (λ x. Going steps stops old now (Ok x) all) (bare_next i h) going) ends
 
-  pub tagged_end : (strings : List (List ℕ)) (i : ℕ) (pairs : List ℕ) → places ≤ i → Going start now (tagged_from strings i pairs) all → Grows start now all
-  tagged_end strings i pairs h going =
-      going_end start now all (subst (λ x. Going start now x all) (no_tagged strings granularity (drop i d.ids.items) (drop i d.lats.items) (drop i d.lons.items) pairs (past i h)) going)
+    pub bare_end : (i : ℕ) → places ≤ i → Going steps stops old now (Ok (bare_from i)) all → Grows steps stops old now all
+    bare_end i h going =
+        going_end steps stops old now all (subst (λ x. Going steps stops old now (Ok x) all) (no_bare granularity (drop i d.ids.items.items) (drop i d.lats.items.items) (drop i d.lons.items.items) (past i h)) going)
 
-  pub tagged_refused : {X : Type 0} (strings : List (List ℕ)) (new : FoundSoFar) (r : Result X BlockErr) (i : ℕ) (pairs : List ℕ) (why : Why) → i < places → first_run strings [] pairs ≡ Err why
-      → Going start now (tagged_from strings i pairs) all → Adds now new r (Err why) → Adds start new r all
-  tagged_refused strings new r i pairs why h read going adds so_far held =
-      let before = subst (λ x. Going start now x all) (tagged_next strings i pairs h ∙ ap (λ r. r >>= with_node (place_node granularity d i) (tagged_from strings (i + 1))) read) going so_far held in
-      subst (After new r) before.1.1 (adds before.0 before.1.0)
+    pub tagged_read : (strings : List (List ℕ)) (next : T × Option Why) (i : ℕ) (pairs : List ℕ) (t : List Tag) (behind : List ℕ) → i < places → first_run strings [] pairs ≡ Ok (t, behind)
+        → Going steps stops old now (tagged_from strings i pairs) all → Grows steps stops now next (Ok (place_node granularity d i t ∷ [])) → Going steps stops old next (tagged_from strings (i + 1) behind) all
+    tagged_read strings next i pairs t behind h read going grows =
+        going_step steps stops old now next (Ok (place_node granularity d i t ∷ [])) (tagged_from strings (i + 1) behind) all (subst (λ x. Going steps stops old now x all) (tagged_one strings i pairs t behind h read) going) grows
+
+    pub tagged_stops : (strings : List (List ℕ)) (taker : T) (e : WalkErr Stop) (i : ℕ) (pairs : List ℕ) (t : List Tag) (behind : List ℕ) → i < places → first_run strings [] pairs ≡ Ok (t, behind)
+        → Going steps stops old now (tagged_from strings i pairs) all → Ends steps stops now taker e (Ok (place_node granularity d i t ∷ [])) → Ends steps stops old taker e all
+    tagged_stops strings taker e i pairs t behind h read going ends =
+        going_err steps stops old now taker e (Ok (place_node granularity d i t ∷ [])) (tagged_from strings (i + 1) behind) all (subst (λ x. Going steps stops old now x all) (tagged_one strings i pairs t behind h read) going) ends
+
+    pub tagged_end : (strings : List (List ℕ)) (i : ℕ) (pairs : List ℕ) → places ≤ i → Going steps stops old now (tagged_from strings i pairs) all → Grows steps stops old now all
+    tagged_end strings i pairs h going =
+        going_end steps stops old now all (subst (λ x. Going steps stops old now x all) (no_tagged strings granularity (drop i d.ids.items.items) (drop i d.lats.items.items) (drop i d.lons.items.items) pairs (past i h)) going)
+
+    pub tagged_refused : {X : Type 0} (strings : List (List ℕ)) (new : T × Option Why) (r : Result X (WalkErr Stop)) (i : ℕ) (pairs : List ℕ) (why : Why) → i < places → first_run strings [] pairs ≡ Err why
+        → Going steps stops old now (tagged_from strings i pairs) all → Adds steps stops now new r (Err why) → Adds steps stops old new r all
+    tagged_refused strings new r i pairs why h read going adds =
+        going_last steps stops old now new r (Err why) all
+        (subst (λ x. Going steps stops old now x all) (tagged_next strings i pairs h ∙ ap (λ r. r >>= with_node (place_node granularity d i) (tagged_from strings (i + 1))) read) going) adds

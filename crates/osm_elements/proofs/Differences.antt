@@ -1,10 +1,11 @@
 -- The steps of the loops over differences and over members.
-use Rattle.std.proofs.Common.{◌≡◌, ℕ, ℤ, min, ◌+◌, ◌<◌, ◌≤◌, Result, Ok, Err, List, [], ◌∷◌, ◌++◌, length, drop, get_or, refl, ap, sym, ◌∙◌, arith}
+use Rattle.std.proofs.Common.{◌≡◌, ℕ, ℤ, min, ◌+◌, ◌<◌, ◌≤◌, Result, Ok, Err, List, [], ◌∷◌, ◌++◌, length, map, drop, get_or, refl, ap, sym, ◌∙◌, arith, append_assoc}
 use Rattle.std.proofs.lemmas.List.{drop_more, append-nil, length-drop}
 use Rattle.tb_types.specs.declared.damage.Why.{Why}
 use Rattle.tb_types.specs.Results.{◌>>=◌}
 use Rattle.osm_elements.specs.Fields.{with_found}
 use Rattle.tb_types.specs.declared.element.Kind.{Kind}
+use Rattle.tb_types.specs.declared.element.OsmId.{OsmId}
 use Rattle.osm_elements.specs.declared.element.Member.{Member}
 use Rattle.osm_elements.specs.Granularity.{next_sum, sums_from}
 use Rattle.osm_elements.specs.Elements.{kind_of, member_of, members_of, osm_id}
@@ -22,6 +23,24 @@ pub sum_stops : (ds : List ℕ) (i : ℕ) (sum : ℤ) (prefix : List ℤ) (why :
     → with_found prefix (sums_from sum (drop i ds)) ≡ total → total ≡ Err why
 sum_stops ds i sum prefix why total h step told =
     sym told ∙ (ap (λ xs. with_found prefix (sums_from sum xs)) (drop_more ds i 0 h) ∙ ap (λ r. with_found prefix (r >>= λ n. sums_from n (drop (i + 1) ds) >>= λ later. Ok (n ∷ later))) step)
+
+-- the same of ids
+ids_item : (prefix : List OsmId) (n : ℤ) (later : Result (List ℤ) Why) → with_found prefix ((later >>= λ ns. Ok (n ∷ ns)) >>= λ ns. Ok (map osm_id ns)) ≡ with_found (prefix ++ osm_id n ∷ []) (later >>= λ ns. Ok (map osm_id ns))
+ids_item prefix n (Ok ns) = ap Ok (sym (append_assoc prefix (osm_id n ∷ []) (map osm_id ns)))
+ids_item prefix n (Err why) = refl
+
+pub id_read : (ds : List ℕ) (i : ℕ) (sum next : ℤ) (prefix : List OsmId) (total : Result (List OsmId) Why) → i < length ds → next_sum sum (get_or ds i 0) ≡ Ok next
+    → with_found prefix (sums_from sum (drop i ds) >>= λ ns. Ok (map osm_id ns)) ≡ total → with_found (prefix ++ osm_id next ∷ []) (sums_from next (drop (i + 1) ds) >>= λ ns. Ok (map osm_id ns)) ≡ total
+id_read ds i sum next prefix total h step told =
+    sym (ids_item prefix next (sums_from next (drop (i + 1) ds)))
+    ∙ (sym (ap (λ r. with_found prefix ((r >>= λ n. sums_from n (drop (i + 1) ds) >>= λ later. Ok (n ∷ later)) >>= λ ns. Ok (map osm_id ns))) step)
+    ∙ (sym (ap (λ xs. with_found prefix (sums_from sum xs >>= λ ns. Ok (map osm_id ns))) (drop_more ds i 0 h)) ∙ told))
+
+pub id_stops : (ds : List ℕ) (i : ℕ) (sum : ℤ) (prefix : List OsmId) (why : Why) (total : Result (List OsmId) Why) → i < length ds → next_sum sum (get_or ds i 0) ≡ Err why
+    → with_found prefix (sums_from sum (drop i ds) >>= λ ns. Ok (map osm_id ns)) ≡ total → total ≡ Err why
+id_stops ds i sum prefix why total h step told =
+    sym told ∙ (ap (λ xs. with_found prefix (sums_from sum xs >>= λ ns. Ok (map osm_id ns))) (drop_more ds i 0 h)
+    ∙ ap (λ r. with_found prefix ((r >>= λ n. sums_from n (drop (i + 1) ds) >>= λ later. Ok (n ∷ later)) >>= λ ns. Ok (map osm_id ns))) step)
 
 pub member_kind : (id : ℤ) (k : ℕ) (r : Result Kind Why) → kind_of k ≡ r → member_of id k ≡ r >>= λ kind. Ok (record { kind = kind; id = osm_id id })
 member_kind id k r h = ap (λ r. r >>= λ kind. Ok (record { kind = kind; id = osm_id id })) h

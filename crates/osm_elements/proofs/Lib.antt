@@ -8,3 +8,11 @@ pub mod TagLists
 pub mod Walks
 pub mod NothingDropped
 pub mod WorkedCases
+pub mod Slots
+pub mod Numbering
+pub mod Heads
+pub mod MessageWalks
+pub mod ShortFields
+pub mod Summing
+pub mod DenseGroups
+pub mod Looking

@@ -17,66 +17,70 @@ use Rattle.tb_wire.specs.Message.{message, message_at}
 use Rattle.tb_wire.proofs.Messages.{message_at-step}
 use Rattle.osm_elements.specs.declared.fault.BlockErr.{BlockErr}
 use Rattle.osm_elements.specs.declared.fault.BlockErr.TheVariants as faults
-use Rattle.osm_elements.specs.declared.found.FoundSoFar.{FoundSoFar}
+use Rattle.osm_elements.specs.declared.taker.WalkErr.{WalkErr}
 use Rattle.osm_elements.specs.declared.granularity.Granularity.{Granularity}
 use Rattle.tb_types.specs.Results.{◌>>=◌}
 use Rattle.osm_elements.specs.Reasons.{IsStop}
 use Rattle.osm_elements.specs.Fields.{or_wire, fields_of, one_body, some_fields, if_numbered, all_of, bodies, merged_fields, with_found}
 use Rattle.osm_elements.specs.Tags.{strings_of}
-use Rattle.osm_elements.specs.Elements.{element_of, group_field}
+use Rattle.osm_elements.specs.Elements.{Element, element_of, group_field}
+use Rattle.osm_elements.specs.WalkErrs.{walk_err}
+use Rattle.osm_elements.specs.Heads.{some_strings}
 use Rattle.osm_elements.specs.Dense.{dense_of}
 use Rattle.osm_elements.specs.Block.{Found, joined, every, one, each_in, elements_in, group_of}
 use Rattle.osm_elements.specs.SoFar.{Ends, Grows}
-use Rattle.osm_elements.specs.Walks.{IsNext, bodies_at, with_body, each_from, fields_in, merged_fields_in, dense_in, bodies_in}
+use Rattle.osm_elements.specs.declared.word.Word.{Word}
+use Rattle.osm_elements.specs.Words.{seen_word, seen_words}
+use Rattle.osm_elements.specs.Walks.{IsNext, bodies_at, with_body, each_from, fields_in, merged_fields_in, dense_in}
 use Rattle.osm_elements.proofs.Prefixes.{with_found-part, with_found-item}
-use Rattle.osm_elements.proofs.Joins.{Going, going_step, going_err, going_end, going_last, going_last_err, joined-wire, wire-joined}
+use Rattle.osm_elements.proofs.Joins.{Going, going_step, going_err, going_end, going_more, going_last_err, block_ends, joined-wire, wire-joined}
 
 -- whatever is refused is no message
-abbrev OnlyWire : {A : Type 0} → Result A Why → Type 0
+abbrev pub OnlyWire : {A : Type 0} → Result A Why → Type 0
 OnlyWire (Ok x) = Unit {0}
 OnlyWire (Err why) = why ≡ reasons.Wire
 
-only-next : {A B : Type 0} (r : Result A Why) (f : A → Result B Why) → OnlyWire r → ((x : A) → OnlyWire (f x)) → OnlyWire (r >>= f)
+pub only-next : {A B : Type 0} (r : Result A Why) (f : A → Result B Why) → OnlyWire r → ((x : A) → OnlyWire (f x)) → OnlyWire (r >>= f)
 only-next (Ok x) f h k = k x
 only-next (Err why) f h k = h
 
-only-either : {A : Type 0} (b : Bool) (r s : Result A Why) → OnlyWire r → OnlyWire s → OnlyWire (if b then r else s)
+pub only-either : {A : Type 0} (b : Bool) (r s : Result A Why) → OnlyWire r → OnlyWire s → OnlyWire (if b then r else s)
 only-either true r s h k = h
 only-either false r s h k = k
 
-or_wire-only : {A : Type 0} (r : Result A Wire) → OnlyWire (or_wire r)
+pub or_wire-only : {A : Type 0} (r : Result A Wire) → OnlyWire (or_wire r)
 or_wire-only (Ok x) = tt
 or_wire-only (Err e) = refl
 
-one_body-only : (v : Value) → OnlyWire (one_body v)
+pub one_body-only : (v : Value) → OnlyWire (one_body v)
 one_body-only (text bytes) = tt
 one_body-only (number n) = refl
 one_body-only (eight_bytes n) = refl
 one_body-only (four_bytes n) = refl
 
-some_fields-only : (v : Value) → OnlyWire (some_fields v)
+pub some_fields-only : (v : Value) → OnlyWire (some_fields v)
 some_fields-only (text bytes) = or_wire-only (message bytes)
 some_fields-only (number n) = refl
 some_fields-only (eight_bytes n) = refl
 some_fields-only (four_bytes n) = refl
 
-all_of-only : {A : Type 0} (read : Value → Result (List A) Why) → ((v : Value) → OnlyWire (read v)) → (n : ℕ) (fields : List Entry) → OnlyWire (all_of read n fields)
+pub all_of-only : {A : Type 0} (read : Value → Result (List A) Why) → ((v : Value) → OnlyWire (read v)) → (n : ℕ) (fields : List Entry) → OnlyWire (all_of read n fields)
 all_of-only read h n [] = tt
 all_of-only read h n (f ∷ fields) =
     only-next (if_numbered read n f) _ (only-either (f.number == n) _ _ (h f.value) tt) (λ these. only-next (all_of read n fields) _ (all_of-only read h n fields) (λ later. tt))
 
-bodies_at-only : (n : ℕ) (bytes : List ℕ) (at : ℕ) → OnlyWire (bodies_at n bytes at)
+pub bodies_at-only : (n : ℕ) (bytes : List ℕ) (at : ℕ) → OnlyWire (bodies_at n bytes at)
 unfolding bodies_at
 bodies_at-only n bytes at = only-next (or_wire (message_at bytes at)) (bodies n) (or_wire-only (message_at bytes at)) (λ fields. all_of-only one_body one_body-only n fields)
 
-fields_in-only : (bs : List (List ℕ)) → OnlyWire (fields_in bs)
+pub fields_in-only : (bs : List (List ℕ)) → OnlyWire (fields_in bs)
 fields_in-only [] = tt
 fields_in-only (b ∷ bs) = only-next (fields_of b) _ (or_wire-only (message b)) (λ these. only-next (fields_in bs) _ (fields_in-only bs) (λ later. tt))
 
-merged_fields_in-only : (n : ℕ) (bytes : List ℕ) → OnlyWire (merged_fields_in n bytes)
+pub merged_fields_in-only : (n : ℕ) (bytes : List ℕ) → OnlyWire (merged_fields_in n bytes)
 merged_fields_in-only n bytes = only-next (bodies_at n bytes 0) fields_in (bodies_at-only n bytes 0) fields_in-only
 
-cons-wire : {A B : Type 0} (r : Result (List A) Wire) (x : A) (g : List A → Result B Why) → or_wire (r >>! λ rest. Ok (x ∷ rest)) >>= g ≡ or_wire r >>= λ rest. g (x ∷ rest)
+pub cons-wire : {A B : Type 0} (r : Result (List A) Wire) (x : A) (g : List A → Result B Why) → or_wire (r >>! λ rest. Ok (x ∷ rest)) >>= g ≡ or_wire r >>= λ rest. g (x ∷ rest)
 cons-wire (Ok rest) x g = refl
 cons-wire (Err e) x g = refl
 
@@ -141,27 +145,30 @@ each-joined : (read : List ℕ → Found) (b : List ℕ) (later : Result (List (
 each-joined read b (Ok bs) w = refl
 each-joined read b (Err why) w = ap Err w ∙ (sym (joined-wire (read b)) ∙ ap (λ x. joined (read b) (Err x)) (sym w))
 
-module _ (read : List ℕ → Found) (n : ℕ) (bytes : List ℕ) (start now : FoundSoFar) (at : ℕ) (all : Found) (going : Going start now (each_from read n bytes at) all) where
-  next_first : (b : List ℕ) (next : ℕ) → bodies_at n bytes at ≡ with_body b (bodies_at n bytes next) → Going start now (joined (read b) (each_from read n bytes next)) all
+module _ {T Stop : Type 0} (steps : T → List Element → T → Type 0) (stops : T → List Element → T → Stop → Type 0)
+    (read : List ℕ → Found) (n : ℕ) (bytes : List ℕ) (old now : T × Option Why) (at : ℕ) (all : Found) (going : Going steps stops old now (each_from read n bytes at) all) where
+  next_first : (b : List ℕ) (next : ℕ) → bodies_at n bytes at ≡ with_body b (bodies_at n bytes next) → Going steps stops old now (joined (read b) (each_from read n bytes next)) all
   next_first b next is =
-      subst (λ x. Going start now x all) (ap (λ r. r >>= every read) is ∙ each-joined read b (bodies_at n bytes next) (bodies_at-only n bytes next)) going
+      subst (λ x. Going steps stops old now x all) (ap (λ r. r >>= every read) is ∙ each-joined read b (bodies_at n bytes next) (bodies_at-only n bytes next)) going
 
-  pub each_read : (new : FoundSoFar) (b : List ℕ) (next : ℕ) → bodies_at n bytes at ≡ with_body b (bodies_at n bytes next) → Grows now new (read b) → Going start new (each_from read n bytes next) all
-  each_read new b next is grows = going_step start now new (read b) (each_from read n bytes next) all (next_first b next is) grows
+  pub each_read : (new : T × Option Why) (b : List ℕ) (next : ℕ) → bodies_at n bytes at ≡ with_body b (bodies_at n bytes next) → Grows steps stops now new (read b) → Going steps stops old new (each_from read n bytes next) all
+  each_read new b next is grows = going_step steps stops old now new (read b) (each_from read n bytes next) all (next_first b next is) grows
 
-  pub each_stops : (e : BlockErr) (b : List ℕ) (next : ℕ) → bodies_at n bytes at ≡ with_body b (bodies_at n bytes next) → Ends now e (read b) → Ends start e all
-  each_stops e b next is ends = going_err start now e (read b) (each_from read n bytes next) all (next_first b next is) ends
+  pub each_stops : (taker : T) (e : WalkErr Stop) (b : List ℕ) (next : ℕ) → bodies_at n bytes at ≡ with_body b (bodies_at n bytes next) → Ends steps stops now taker e (read b) → Ends steps stops old taker e all
+  each_stops taker e b next is ends = going_err steps stops old now taker e (read b) (each_from read n bytes next) all (next_first b next is) ends
 
-  pub each_end : bodies_at n bytes at ≡ Ok [] → Grows start now all
-  each_end none = going_end start now all (subst (λ x. Going start now x all) (ap (λ r. r >>= every read) none) going)
+  pub each_end : bodies_at n bytes at ≡ Ok [] → Grows steps stops old now all
+  each_end none = going_end steps stops old now all (subst (λ x. Going steps stops old now x all) (ap (λ r. r >>= every read) none) going)
 
-  pub each_refused : (e : BlockErr) → IsStop e (bodies_at n bytes at) → Ends start e all
-  each_refused (faults.Bad why) stop so_far held =
-      let wire : why ≡ reasons.Wire = subst OnlyWire stop (bodies_at-only n bytes at) in
-      let before = going so_far held in
-      let left : each_from read n bytes at ≡ Err reasons.Wire = ap (λ r. r >>= every read) stop ∙ ap Err wire in
-      (wire, sym before.1.1 ∙ (ap (joined before.0) left ∙ joined-wire before.0))
-  each_refused faults.Memory stop so_far held = tt
+  refused_left : (e : BlockErr) → IsStop e (bodies_at n bytes at) → (why : Why) → e ≡ faults.Bad why → (why ≡ reasons.Wire) × (each_from read n bytes at ≡ Err reasons.Wire)
+  refused_left (faults.Bad other) stop why same =
+      let wire : other ≡ reasons.Wire = subst OnlyWire stop (bodies_at-only n bytes at) in
+      let is : other ≡ why = cc in
+      (sym is ∙ wire, ap (λ r. r >>= every read) stop ∙ ap Err wire)
+  refused_left faults.Memory stop why same = cc
+
+  pub each_refused : (e : BlockErr) → IsStop e (bodies_at n bytes at) → Ends steps stops old now.0 (walk_err e) all
+  each_refused e stop = going_last_err steps stops old now now.0 (walk_err e) (each_from read n bytes at) all going (block_ends steps stops now e (each_from read n bytes at) (refused_left e stop))
 
 -- the fields of all messages of a number are those of its bodies
 keep : {A B : Type 0} (r : Result A Why) (f : A → Result (List B) Why) (m : Result (List B) Why) → m ≡ r >>= f → m >>= (λ later. Ok ([] ++ later)) ≡ r >>= f
@@ -193,6 +200,10 @@ merged_fields-bodies n (f ∷ fields) = field-before n (bodies n fields) (merged
 -- a group whose parts are read one after another
 refused_first : (why : Why) → why ≡ reasons.Wire → (x : Found) → Err why ≡ joined (Err why) x
 refused_first why w x = ap Err w ∙ (sym (wire-joined x) ∙ ap (λ y. joined (Err y) x) (sym w))
+
+-- no message, whatever stands behind it
+pub wire_unit : (why : Why) → why ≡ reasons.Wire → (x : Found) → Err why ≡ joined (Err why) x
+wire_unit why w x = refused_first why w x
 
 refused_later : (why : Why) → why ≡ reasons.Wire → (x y : Found) → Err why ≡ y → Err why ≡ joined x y
 refused_later why w x y same = ap Err w ∙ (sym (joined-wire x) ∙ ap (joined x) (ap Err (sym w) ∙ same))
@@ -228,33 +239,9 @@ group_of_walked strings granularity body = parts strings granularity (or_wire (m
 pub merged_wire : (n : ℕ) (bytes : List ℕ) (why : Why) → merged_fields_in n bytes ≡ Err why → why ≡ reasons.Wire
 merged_wire n bytes why stop = subst OnlyWire stop (merged_fields_in-only n bytes)
 
--- the fields of the next message, before those of the later ones
-later-fields : (these : Result (List Entry) Why) (r : Result (List (List ℕ)) Why) (b : List ℕ) → OnlyWire these → OnlyWire r → these ≡ fields_of b
-    → with_body b r >>= fields_in ≡ these >>= λ xs. r >>= fields_in >>= λ later. Ok (xs ++ later)
-later-fields these r b w v same = sym (fields-before these r (r >>= fields_in) b w v refl same)
-
-module _ (n : ℕ) (bytes : List ℕ) (at next : ℕ) (b : List ℕ) (prefix : List Entry) (total : Result (List Entry) Why) (is : bodies_at n bytes at ≡ with_body b (bodies_at n bytes next))
-    (told : with_found prefix (bodies_at n bytes at >>= fields_in) ≡ total) where
-  first_fields : with_found prefix (fields_of b) >>= (λ more. with_found more (bodies_at n bytes next >>= fields_in)) ≡ total
-  first_fields =
-      sym (with_found-part prefix (fields_of b) (bodies_at n bytes next >>= fields_in))
-      ∙ (ap (with_found prefix) (sym (later-fields (fields_of b) (bodies_at n bytes next) b (or_wire-only (message b)) (bodies_at-only n bytes next) refl))
-      ∙ (ap (λ r. with_found prefix (r >>= fields_in)) (sym is) ∙ told))
-
-  pub fields_joined : (more : List Entry) → with_found prefix (fields_of b) ≡ Ok more → with_found more (bodies_at n bytes next >>= fields_in) ≡ total
-  fields_joined more step = sym (ap (λ r. r >>= λ more. with_found more (bodies_at n bytes next >>= fields_in)) step) ∙ first_fields
-
-  pub fields_stop : (why : Why) → with_found prefix (fields_of b) ≡ Err why → total ≡ Err why
-  fields_stop why step = sym first_fields ∙ ap (λ r. r >>= λ more. with_found more (bodies_at n bytes next >>= fields_in)) step
-
-pub fields_end : (n : ℕ) (bytes : List ℕ) (at : ℕ) (prefix : List Entry) (total : Result (List Entry) Why) → bodies_at n bytes at ≡ Ok [] → with_found prefix (bodies_at n bytes at >>= fields_in) ≡ total → total ≡ Ok prefix
-fields_end n bytes at prefix total none told = sym told ∙ (ap (λ r. with_found prefix (r >>= fields_in)) none ∙ ap Ok (append-nil prefix))
-
-pub fields_refused : (n : ℕ) (bytes : List ℕ) (at : ℕ) (prefix : List Entry) (total : Result (List Entry) Why) (why : Why) → bodies_at n bytes at ≡ Err why → with_found prefix (bodies_at n bytes at >>= fields_in) ≡ total → total ≡ Err why
-fields_refused n bytes at prefix total why stop told = sym told ∙ ap (λ r. with_found prefix (r >>= fields_in)) stop
-
 -- the parts of a group, one after another
-module _ (strings : List (List ℕ)) (granularity : Granularity) (group : List ℕ) (start : FoundSoFar) where
+module _ {T Stop : Type 0} (steps : T → List Element → T → Type 0) (stops : T → List Element → T → Stop → Type 0)
+    (strings : List (List ℕ)) (granularity : Granularity) (group : List ℕ) (start : T × Option Why) where
   abbrev nodes_part : Found
   nodes_part = kind_in strings granularity kinds.Node group
 
@@ -267,42 +254,38 @@ module _ (strings : List (List ℕ)) (granularity : Granularity) (group : List �
   abbrev relations_part : Found
   relations_part = kind_in strings granularity kinds.Relation group
 
-  at_nodes : Going start start (joined nodes_part (joined dense_part (joined ways_part relations_part))) (group_of strings granularity group)
-  at_nodes so_far held = (so_far, (held, ap (joined so_far) (sym (group_of_walked strings granularity group))))
+  abbrev whole : Found
+  whole = group_of strings granularity group
 
-  pub nodes_stop : (e : BlockErr) → Ends start e nodes_part → Ends start e (group_of strings granularity group)
-  nodes_stop e ends = going_err start start e nodes_part (joined dense_part (joined ways_part relations_part)) (group_of strings granularity group) at_nodes ends
+  at_nodes : Going steps stops start start (joined nodes_part (joined dense_part (joined ways_part relations_part))) whole
+  at_nodes first so_far held = (so_far, held, ap (joined so_far) (sym (group_of_walked strings granularity group)))
 
-  module _ (noded : FoundSoFar) (nodes : Grows start noded nodes_part) where
-    at_dense : Going start noded (joined dense_part (joined ways_part relations_part)) (group_of strings granularity group)
-    at_dense = going_step start start noded nodes_part (joined dense_part (joined ways_part relations_part)) (group_of strings granularity group) at_nodes nodes
+  pub nodes_stop : (taker : T) (e : WalkErr Stop) → Ends steps stops start taker e nodes_part → Ends steps stops start taker e whole
+  nodes_stop taker e ends = going_err steps stops start start taker e nodes_part (joined dense_part (joined ways_part relations_part)) whole at_nodes ends
 
-    pub dense_stop : (e : BlockErr) → Ends noded e dense_part → Ends start e (group_of strings granularity group)
-    dense_stop e ends = going_err start noded e dense_part (joined ways_part relations_part) (group_of strings granularity group) at_dense ends
+  module _ (noded : T × Option Why) (nodes : Grows steps stops start noded nodes_part) where
+    at_dense : Going steps stops start noded (joined dense_part (joined ways_part relations_part)) whole
+    at_dense = going_step steps stops start start noded nodes_part (joined dense_part (joined ways_part relations_part)) whole at_nodes nodes
 
-    module _ (densed : FoundSoFar) (dense : Grows noded densed dense_part) where
-      at_ways : Going start densed (joined ways_part relations_part) (group_of strings granularity group)
-      at_ways = going_step start noded densed dense_part (joined ways_part relations_part) (group_of strings granularity group) at_dense dense
+    pub dense_stop : (taker : T) (e : WalkErr Stop) → Ends steps stops noded taker e dense_part → Ends steps stops start taker e whole
+    dense_stop taker e ends = going_err steps stops start noded taker e dense_part (joined ways_part relations_part) whole at_dense ends
 
-      pub ways_stop : (e : BlockErr) → Ends densed e ways_part → Ends start e (group_of strings granularity group)
-      ways_stop e ends = going_err start densed e ways_part relations_part (group_of strings granularity group) at_ways ends
+    module _ (densed : T × Option Why) (dense : Grows steps stops noded densed dense_part) where
+      at_ways : Going steps stops start densed (joined ways_part relations_part) whole
+      at_ways = going_step steps stops start noded densed dense_part (joined ways_part relations_part) whole at_dense dense
 
-      module _ (wayed : FoundSoFar) (ways : Grows densed wayed ways_part) where
-        at_relations : Going start wayed relations_part (group_of strings granularity group)
-        at_relations = going_step start densed wayed ways_part relations_part (group_of strings granularity group) at_ways ways
+      pub ways_stop : (taker : T) (e : WalkErr Stop) → Ends steps stops densed taker e ways_part → Ends steps stops start taker e whole
+      ways_stop taker e ends = going_err steps stops start densed taker e ways_part relations_part whole at_ways ends
 
-        pub relations_stop : (e : BlockErr) → Ends wayed e relations_part → Ends start e (group_of strings granularity group)
-        relations_stop e ends = going_last_err start wayed e relations_part (group_of strings granularity group) at_relations ends
+      module _ (wayed : T × Option Why) (ways : Grows steps stops densed wayed ways_part) where
+        at_relations : Going steps stops start wayed relations_part whole
+        at_relations = going_step steps stops start densed wayed ways_part relations_part whole at_ways ways
 
-        pub group_added : (new : FoundSoFar) → Grows wayed new relations_part → Grows start new (group_of strings granularity group)
-        group_added new grows = going_last start wayed new relations_part (group_of strings granularity group) at_relations grows
+        pub relations_stop : (taker : T) (e : WalkErr Stop) → Ends steps stops wayed taker e relations_part → Ends steps stops start taker e whole
+        relations_stop taker e ends = going_last_err steps stops start wayed taker e relations_part whole at_relations ends
 
--- what ends the reading of the dense messages ends that of the dense nodes
-pub merged_ends : (strings : List (List ℕ)) (granularity : Granularity) (group : List ℕ) (start : FoundSoFar) (e : BlockErr) → IsStop e (merged_fields_in 2 group) → Ends start e (dense_in strings granularity group)
-merged_ends strings granularity group start (faults.Bad why) stop so_far held =
-    let wire : why ≡ reasons.Wire = merged_wire 2 group why stop in
-    (wire, ap (λ r. joined so_far (r >>= dense_of strings granularity)) stop ∙ (ap (λ w. joined so_far (Err w)) wire ∙ joined-wire so_far))
-merged_ends strings granularity group start faults.Memory stop so_far held = tt
+        pub group_added : (new : T × Option Why) → Grows steps stops wayed new relations_part → Grows steps stops start new whole
+        group_added new grows = going_more steps stops start wayed new relations_part whole at_relations grows
 
 -- what `?` hands on is the error of the call
 pub next_err : (n : ℕ) (bytes : List ℕ) (at : ℕ) (r : Result (Option (Bor (List ℕ) × ℕ)) BlockErr) (e : BlockErr) → IsErrAnd r (λ x. x ≡ e) → IsStop e (bodies_at n bytes at) → IsNext n bytes at r
@@ -310,7 +293,7 @@ next_err n bytes at (Ok x) e h stop = absurd h
 next_err n bytes at (Err x) e h stop = subst (λ (y : BlockErr). IsStop y (bodies_at n bytes at)) (sym h) stop
 
 -- the strings of all tables
-all_of-append : {A : Type 0} (read : Value → Result (List A) Why) (n : ℕ) (xs ys : List Entry) → all_of read n (xs ++ ys) ≡ all_of read n xs >>= λ these. all_of read n ys >>= λ later. Ok (these ++ later)
+pub all_of-append : {A : Type 0} (read : Value → Result (List A) Why) (n : ℕ) (xs ys : List Entry) → all_of read n (xs ++ ys) ≡ all_of read n xs >>= λ these. all_of read n ys >>= λ later. Ok (these ++ later)
 all_of-append read n [] ys = none (all_of read n ys)
   where
     none : {B : Type 0} (r : Result (List B) Why) → r ≡ r >>= λ later. Ok ([] ++ later)
@@ -324,47 +307,36 @@ all_of-append read n (x ∷ xs) ys = ap (λ r. if_numbered read n x >>= λ these
     turn (Ok these) (Ok more) (Err why) = refl
     turn (Ok these) (Ok more) (Ok later) = ap Ok (sym (append_assoc these more later))
 
-one-table : (m : ℕ) (r : Result (List Entry) Why) (s : Result (List Entry) Why) (t : Result (List (List ℕ)) Why) → OnlyWire s → s >>= bodies m ≡ t
-    → r >>= (λ these. s >>= λ later. Ok (these ++ later)) >>= bodies m ≡ r >>= bodies m >>= λ these. t >>= λ later. Ok (these ++ later)
-one-table m (Err why) s t w h = refl
-one-table m (Ok xs) (Err why) t w h = go (bodies m xs) (all_of-only one_body one_body-only m xs)
+-- what the fields of a number have, in all messages
+pub one-table : {A : Type 0} (read : Value → Result (List A) Why) → ((v : Value) → OnlyWire (read v)) → (m : ℕ) (r : Result (List Entry) Why) (s : Result (List Entry) Why) (t : Result (List A) Why) → OnlyWire s → s >>= all_of read m ≡ t
+    → r >>= (λ these. s >>= λ later. Ok (these ++ later)) >>= all_of read m ≡ r >>= all_of read m >>= λ these. t >>= λ later. Ok (these ++ later)
+one-table read only m (Err why) s t w h = refl
+one-table {A = A} read only m (Ok xs) (Err why) t w h = go (all_of read m xs) (all_of-only read only m xs)
   where
-    go : (u : Result (List (List ℕ)) Why) → OnlyWire u → Err why ≡ u >>= λ these. t >>= λ later. Ok (these ++ later)
+    go : (u : Result (List A) Why) → OnlyWire u → Err why ≡ u >>= λ these. t >>= λ later. Ok (these ++ later)
     go (Ok these) k = ap (λ r. r >>= λ later. Ok (these ++ later)) h
     go (Err other) k = ap Err (w ∙ sym k)
-one-table m (Ok xs) (Ok ys) t w h = all_of-append one_body m xs ys ∙ ap (λ r. bodies m xs >>= λ these. r >>= λ later. Ok (these ++ later)) h
+one-table read only m (Ok xs) (Ok ys) t w h = all_of-append read m xs ys ∙ ap (λ r. all_of read m xs >>= λ these. r >>= λ later. Ok (these ++ later)) h
 
-tables-walked : (m : ℕ) (bs : List (List ℕ)) → fields_in bs >>= bodies m ≡ bodies_in m bs
+one_value : (b : Bool) (v : Value) → (if b then some_fields v else Ok []) >>= bodies 1 ≡ (if b then some_strings v else Ok [])
 unfolding bodies_at
-tables-walked m [] = refl
-tables-walked m (b ∷ bs) = one-table m (fields_of b) (fields_in bs) (bodies_in m bs) (fields_in-only bs) (tables-walked m bs)
+one_value true (text bytes) = refl
+one_value true (number n) = refl
+one_value true (eight_bytes n) = refl
+one_value true (four_bytes n) = refl
+one_value false v = refl
 
-pub strings_of_walked : (fields : List Entry) → strings_of fields ≡ bodies 1 fields >>= bodies_in 1
-strings_of_walked fields = ap (λ r. r >>= bodies 1) (merged_fields-bodies 1 fields) ∙ through (bodies 1 fields)
-  where
-    through : (r : Result (List (List ℕ)) Why) → r >>= fields_in >>= bodies 1 ≡ r >>= bodies_in 1
-    through (Ok bs) = tables-walked 1 bs
-    through (Err why) = refl
-
--- the strings of the next table
-module _ (n : ℕ) (tables : List (Bor (List ℕ))) (i : ℕ) (d : Bor (List ℕ)) (prefix : List (List ℕ)) (total : Result (List (List ℕ)) Why) (here : i < length tables)
-    (told : with_found prefix (bodies_in n (map (λ b. b.now) (drop i tables))) ≡ total) where
-  first_table : with_found prefix (bodies_at n (get_or tables i d).now 0) >>= (λ more. with_found more (bodies_in n (map (λ b. b.now) (drop (i + 1) tables)))) ≡ total
-  first_table =
-      sym (with_found-part prefix (bodies_at n (get_or tables i d).now 0) (bodies_in n (map (λ b. b.now) (drop (i + 1) tables))))
-      ∙ (sym (ap (λ xs. with_found prefix (bodies_in n (map (λ b. b.now) xs))) (drop_more tables i d here)) ∙ told)
-
-  pub table_joined : (more : List (List ℕ)) → with_found prefix (bodies_at n (get_or tables i d).now 0) ≡ Ok more → with_found more (bodies_in n (map (λ b. b.now) (drop (i + 1) tables))) ≡ total
-  table_joined more step = sym (ap (λ r. r >>= λ more. with_found more (bodies_in n (map (λ b. b.now) (drop (i + 1) tables)))) step) ∙ first_table
-
-  pub table_stops : (why : Why) → with_found prefix (bodies_at n (get_or tables i d).now 0) ≡ Err why → total ≡ Err why
-  table_stops why step = sym first_table ∙ ap (λ r. r >>= λ more. with_found more (bodies_in n (map (λ b. b.now) (drop (i + 1) tables)))) step
+pub strings_of_walked : (fields : List Entry) → strings_of fields ≡ all_of some_strings 1 fields
+strings_of_walked [] = refl
+strings_of_walked (f ∷ fields) =
+    one-table one_body one_body-only 1 (if_numbered some_fields 1 f) (merged_fields 1 fields) (all_of some_strings 1 fields) (all_of-only some_fields some_fields-only 1 fields) (strings_of_walked fields)
+    ∙ ap (λ r. r >>= λ these. all_of some_strings 1 fields >>= λ later. Ok (these ++ later)) (one_value (f.number == 1) f.value)
 
 -- the next of the bytes of a number joins those before it
-pub body_joined : (n : ℕ) (bytes : List ℕ) (at next : ℕ) (out : List (Bor (List ℕ))) (b : Bor (List ℕ)) (total : Result (List (List ℕ)) Why) → bodies_at n bytes at ≡ with_body b.now (bodies_at n bytes next)
-    → with_found (map (λ b. b.now) out) (bodies_at n bytes at) ≡ total → with_found (map (λ b. b.now) (out ++ b ∷ [])) (bodies_at n bytes next) ≡ total
-body_joined n bytes at next out b total is told =
-    rw map-append (sym (with_found-item (map (λ b. b.now) out) b.now (bodies_at n bytes next)) ∙ (sym (ap (with_found (map (λ b. b.now) out)) is) ∙ told))
+pub body_joined : (n : ℕ) (bytes : List ℕ) (at next : ℕ) (out : List Word) (w : Word) (b : List ℕ) (total : Result (List (List ℕ)) Why) → bodies_at n bytes at ≡ with_body b (bodies_at n bytes next) → seen_word w ≡ b
+    → with_found (seen_words out) (bodies_at n bytes at) ≡ total → with_found (seen_words (out ++ w ∷ [])) (bodies_at n bytes next) ≡ total
+body_joined n bytes at next out w b total is same told =
+    rw (map-append, same) (sym (with_found-item (seen_words out) b (bodies_at n bytes next)) ∙ (sym (ap (with_found (seen_words out)) is) ∙ told))
 
 pub bodies_stop : (prefix : List (List ℕ)) (r total : Result (List (List ℕ)) Why) (why : Why) → with_found prefix r ≡ total → r ≡ Err why → total ≡ Err why
 bodies_stop prefix r total why told stop = sym told ∙ ap (with_found prefix) stop

@@ -16,7 +16,7 @@ use Rattle.osm_elements.specs.Tags.{Tag, tags_of}
 use Rattle.osm_elements.specs.Granularity.{sums, place}
 use Rattle.osm_elements.specs.declared.granularity.Granularity.{Granularity}
 use Rattle.osm_elements.specs.declared.element.Member.{Member}
-use Rattle.osm_elements.specs.declared.common.Common.{Common as CommonRead}
+use Rattle.osm_elements.specs.TagRefs.{seen_tags}
 use Rattle.osm_elements.specs.declared.element.AnyElement.{AnyElement}
 use Rattle.osm_elements.specs.declared.element.AnyElement.TheVariants as any
 
@@ -37,9 +37,6 @@ pub record Common : Type 0 where
 
 abbrev pub common_in : List Entry → Result Common Why
 common_in fields = last_number 1 fields >>= λ id. numbers 2 fields >>= λ keys. numbers 3 fields >>= λ values. Ok (record { id = id; keys = keys; values = values })
-
-abbrev pub seen_common : CommonRead → Common
-seen_common c = record { id = c.id; keys = c.keys.items; values = c.values.items }
 
 abbrev pub node_in : List (List ℕ) → Granularity → List Entry → Result Element Why
 node_in strings granularity fields =
@@ -104,6 +101,6 @@ group_field kinds.Relation = 4
 
 -- what the code reads
 abbrev pub seen_element : AnyElement → Element
-seen_element (any.Node id at tags) = node id at tags.pairs
-seen_element (any.Way id tags refs) = way id tags.pairs refs
-seen_element (any.Relation id tags members) = relation id tags.pairs members
+seen_element (any.Node id at tags) = node id at (seen_tags tags.now)
+seen_element (any.Way id tags refs) = way id (seen_tags tags.now) refs.now
+seen_element (any.Relation id tags members) = relation id (seen_tags tags.now) members.now

@@ -14,3 +14,14 @@ pub mod Signed
 pub mod Tags
 pub mod Walks
 pub mod Worked
+pub mod TagRefs
+pub mod WalkErrs
+pub mod Taking
+pub mod Numbered
+pub mod Slots
+pub mod Kept
+pub mod Heads
+pub mod Sums
+pub mod DenseLists
+pub mod Looks
+pub mod Words

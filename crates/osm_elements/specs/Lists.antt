@@ -47,8 +47,8 @@ abbrev pub nodes_of : List (List ℕ) → Granularity → DenseLists → Result 
 nodes_of strings granularity l = if length l.3 == 0 then Ok (bare_nodes granularity l.0 l.1 l.2) else tagged_nodes strings granularity l.0 l.1 l.2 l.3
 
 abbrev pub seen_lists : Dense → DenseLists
-seen_lists d = (d.ids.items, d.lats.items, d.lons.items, d.pairs.items)
+seen_lists d = (d.ids.items.items, d.lats.items.items, d.lons.items.items, d.pairs.items)
 
 -- the node of a place in the lists
 abbrev pub place_node : Granularity → Dense → ℕ → List Tag → Element
-place_node granularity d i tags = node (osm_id (get_or d.ids.items i (pos 0))) (place granularity (get_or d.lats.items i (pos 0)) (get_or d.lons.items i (pos 0))) tags
+place_node granularity d i tags = node (osm_id (get_or d.ids.items.items i (pos 0))) (place granularity (get_or d.lats.items.items i (pos 0)) (get_or d.lons.items.items i (pos 0))) tags

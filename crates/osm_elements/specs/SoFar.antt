@@ -1,33 +1,36 @@
--- What the code has found so far is what was found so far.
-use Rattle.std.specs.Prelude.{◌≡◌, None, Some, Result, Ok, Err, length}
+-- What a taker was given so far, and the first reason so far, are what was found so far.
+use Rattle.std.specs.Prelude.{◌≡◌, Option, None, Some, Result, Ok, Err, List}
+use Rattle.tb_types.specs.declared.damage.Why.{Why}
 use Rattle.tb_types.specs.declared.damage.Why.TheVariants as reasons
-use Rattle.osm_elements.specs.declared.fault.BlockErr.{BlockErr}
-use Rattle.osm_elements.specs.declared.fault.BlockErr.TheVariants as faults
-use Rattle.osm_elements.specs.declared.found.FoundSoFar.{FoundSoFar}
-use Rattle.osm_elements.specs.Block.{Found, joined, numbered, as_node, as_way, as_relation}
+use Rattle.osm_elements.specs.Elements.{Element}
+use Rattle.osm_elements.specs.Block.{Found, joined}
+use Rattle.osm_elements.specs.Taking.{TookSome, StepsByPrefix, StopsByPrefix}
+use Rattle.osm_elements.specs.declared.taker.WalkErr.{WalkErr}
+use Rattle.osm_elements.specs.declared.taker.WalkErr.TheVariants.{Bad, Memory, Taker}
 
--- elements with their numbers and no reason, or the first reason
-abbrev pub Holds : FoundSoFar → Found → Type 0
-Holds g (Ok elements) =
-    (g.why ≡ None) × (g.count ≡ length elements) × (g.nodes.items ≡ numbered as_node 0 elements) × (g.ways.items ≡ numbered as_way 0 elements) × (g.relations.items ≡ numbered as_relation 0 elements)
-Holds g (Err why) = g.why ≡ Some why
+module _ {T Stop : Type 0} (steps : T → List Element → T → Type 0) (stops : T → List Element → T → Stop → Type 0) where
+  -- from its start on the taker has these elements and no reason stands, or the first reason does
+  abbrev pub Holds : T → T × Option Why → Found → Type 0
+  Holds start now (Ok elements) = (now.1 ≡ None) × steps start elements now.0
+  Holds start now (Err why) = (now.1 ≡ Some why) × TookSome steps start now.0
 
--- only what is no message ends the reading
-abbrev pub Ended : BlockErr → Found → Type 0
-Ended (faults.Bad why) found = (why ≡ reasons.Wire) × (found ≡ Err reasons.Wire)
-Ended faults.Memory found = Unit {0}
+  -- only what is no message, want of memory and the taker end the walk
+  abbrev pub Ended : T → T → WalkErr Stop → Found → Type 0
+  Ended start taker (Bad why) found = (why ≡ reasons.Wire) × (found ≡ Err reasons.Wire) × TookSome steps start taker
+  Ended start taker Memory found = StepsByPrefix steps start taker found
+  Ended start taker (Taker stop) found = StopsByPrefix stops start taker stop found
 
--- what it holds after a call
-abbrev pub After : {X : Type 0} → FoundSoFar → Result X BlockErr → Found → Type 0
-After new (Ok x) found = Holds new found
-After new (Err e) found = Ended e found
+  -- what holds after a call
+  abbrev pub After : {X : Type 0} → T → T × Option Why → Result X (WalkErr Stop) → Found → Type 0
+  After start new (Ok x) found = Holds start new found
+  After start new (Err e) found = Ended start new.0 e found
 
--- a call adds something to whatever was found before
-abbrev pub Adds : {X : Type 0} → FoundSoFar → FoundSoFar → Result X BlockErr → Found → Type 0
-Adds old new result more = (so_far : Found) → Holds old so_far → After new result (joined so_far more)
+  -- a call adds something to whatever was found before
+  abbrev pub Adds : {X : Type 0} → T × Option Why → T × Option Why → Result X (WalkErr Stop) → Found → Type 0
+  Adds old new result more = (start : T) (so_far : Found) → Holds start old so_far → After start new result (joined so_far more)
 
-abbrev pub Grows : FoundSoFar → FoundSoFar → Found → Type 0
-Grows old new more = (so_far : Found) → Holds old so_far → Holds new (joined so_far more)
+  abbrev pub Grows : T × Option Why → T × Option Why → Found → Type 0
+  Grows old new more = (start : T) (so_far : Found) → Holds start old so_far → Holds start new (joined so_far more)
 
-abbrev pub Ends : FoundSoFar → BlockErr → Found → Type 0
-Ends old e more = (so_far : Found) → Holds old so_far → Ended e (joined so_far more)
+  abbrev pub Ends : T × Option Why → T → WalkErr Stop → Found → Type 0
+  Ends old taker e more = (start : T) (so_far : Found) → Holds start old so_far → Ended start taker e (joined so_far more)

@@ -42,8 +42,3 @@ merged_fields_in n bytes = bodies_at n bytes 0 >>= fields_in
 -- the dense nodes of a group
 abbrev pub dense_in : List (List ℕ) → Granularity → List ℕ → Found
 dense_in strings granularity group = merged_fields_in 2 group >>= dense_of strings granularity
-
--- the bytes of each field of a number in all messages, one after another
-abbrev pub bodies_in : ℕ → List (List ℕ) → Result (List (List ℕ)) Why
-bodies_in n [] = Ok []
-bodies_in n (body ∷ bodies) = bodies_at n body 0 >>= λ these. bodies_in n bodies >>= λ later. Ok (these ++ later)

@@ -51,10 +51,18 @@ pub struct Kinds {
     pub relations: bool,
 }
 
-/// An element without its number in the block.
-#[derive(Drop)]
-pub(crate) enum AnyElement {
-    Node(OsmId, Option<LatLon>, Tags),
-    Way(OsmId, Tags, Seq<OsmId>),
-    Relation(OsmId, Tags, Seq<Member>),
+/// A tag as it stands in the table of strings.
+#[derive(Clone, Copy, Debug)]
+pub struct TagRef<'a> {
+    pub key: &'a str,
+    pub value: &'a str,
+}
+
+/// An element as it is given to a taker, without its number in the block. What it names lies in the block, or in room that
+/// serves for the next element again.
+#[derive(Clone, Copy, Debug)]
+pub enum AnyElement<'a> {
+    Node(OsmId, Option<LatLon>, &'a [TagRef<'a>]),
+    Way(OsmId, &'a [TagRef<'a>], &'a [OsmId]),
+    Relation(OsmId, &'a [TagRef<'a>], &'a [Member]),
 }

@@ -1,18 +1,12 @@
-ghost use Rattle.std.specs.Prelude.{◌≡◌, map, pos, ◌+ℤ◌, ◌*ℤ◌, unwrap_or, nat_abs, ◌≤◌, ◌^◌};
+ghost use Rattle.std.specs.Prelude.{◌≡◌, pos, ◌+ℤ◌, ◌*ℤ◌, unwrap_or, nat_abs, ◌≤◌, ◌^◌};
 ghost use Rattle.std.specs.Option.{option_map};
 ghost use Rattle.osm_elements.specs.Signed.{signed_64};
-ghost use Rattle.tb_wire.specs.Field.{entry_of};
-ghost use Rattle.osm_elements.specs.Reasons.{Gives};
-ghost use Rattle.osm_elements.specs.Granularity.{granularity_of, place, place_if};
+ghost use Rattle.osm_elements.specs.Granularity.{place, place_if};
+ghost use Rattle.osm_elements.specs.Heads.{granularity_from};
 
-use crate::fault::BlockErr;
-use crate::message::last_number;
-use crate::numbers::{
-    BLOCK_GRANULARITY, BLOCK_LAT_OFFSET, BLOCK_LON_OFFSET, LARGEST_LAT, LARGEST_LON, USUAL_UNIT,
-};
+use crate::numbers::{LARGEST_LAT, LARGEST_LON, USUAL_UNIT};
 use crate::signed::{signed_32, signed_64};
 use tb_types::LatLon;
-use tb_wire::Field;
 
 /// The unit and the origin of a block's locations, in nanodegrees.
 #[derive(Clone, Copy, Debug, PartialEq, Eq)]
@@ -22,21 +16,18 @@ pub(crate) struct Granularity {
     pub lon: i64,
 }
 
-/// The granularity of a block, from its fields.
-pub(crate) fn granularity_of(fields: &[Field<'_>]) -> Result<Granularity, BlockErr>
-    ensures { Gives (λ g. g) result (granularity_of (map entry_of fields.now)) }
+/// The granularity of a block, from the last of each of its numbers.
+pub(crate) fn granularity_from(unit: Option<u64>, lat: Option<u64>, lon: Option<u64>) -> Granularity
+    ensures { result ≡ granularity_from unit lat lon }
 {
-    let unit = last_number(BLOCK_GRANULARITY, fields)?;
-    let lat = last_number(BLOCK_LAT_OFFSET, fields)?;
-    let lon = last_number(BLOCK_LON_OFFSET, fields)?;
-    Ok(Granularity {
+    Granularity {
         unit: match unit {
             Some(n) => signed_32(n),
             None => USUAL_UNIT,
         },
         lat: offset(lat),
         lon: offset(lon),
-    })
+    }
 }
 
 fn offset(n: Option<u64>) -> i64

@@ -1,11 +1,12 @@
 //! Elements of an extract: takes the raw bytes of a block, gives its nodes, ways and relations, or why it has none.
 //!
-//! A message is read into the list of its fields, and what it says is told by projections of that list; the table of strings
-//! and a group, which have a field for each string or element, are walked instead. An element that is refused doesn't end the
-//! reading: the first reason in a fixed order is named that holds anywhere in the block.
+//! Messages are walked field by field, and an element is given to a taker as it lies in the block or in room that serves for
+//! the next one again. An element that is refused doesn't end the walk: the first reason in a fixed order is named that holds
+//! anywhere in the block.
 //!
-//! Read `message` and `walk`, `strings`, `tag_list`, `tags`, `sums`, `granularity`, then `common`, `node`, `way`, `relation`,
-//! `dense` with its `runs`, then `found` (what was found so far), `group` and `block`. `header` has the box of the extract.
+//! Read `taker` (who is given elements), `message` and `walk`, `room`, `strings`, `tag_list`, `tags`, `sums`, `granularity`, then
+//! `common`, `node`, `way`, `relation`, `dense` with its `runs`, then `so_far` (what was given so far), `group` and `block`. `kept`
+//! has the taker that keeps all elements, and `header` the box of the extract.
 #![tactic(auto)]
 
 mod block;
@@ -13,31 +14,40 @@ mod common;
 mod dense;
 mod element;
 mod fault;
-mod found;
 mod granularity;
 mod group;
 mod header;
+mod kept;
 mod kinds;
 mod message;
 mod node;
 mod numbers;
 mod relation;
+mod room;
 mod runs;
 mod signed;
+mod so_far;
 mod strings;
 mod sums;
 mod tag_list;
 mod tags;
+mod taker;
+mod varint;
 mod walk;
 mod way;
+mod word;
 mod worked;
 
-pub use block::read_block;
-pub use element::{Block, Kinds, Member, NodeEl, RelEl, WayEl};
+pub use block::{read_block, walk_block};
+pub use element::{AnyElement, Block, Kinds, Member, NodeEl, RelEl, TagRef, WayEl};
 pub use fault::BlockErr;
 pub use header::read_header;
+pub use kept::copy_tags;
 pub use kinds::kinds_of;
+pub use taker::{ElementTaker, WalkErr};
 pub use worked::{nothing_dropped, worked_cases};
 
 #[cfg(test)]
 mod tests;
+#[cfg(test)]
+mod walk_tests;

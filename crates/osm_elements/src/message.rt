@@ -1,12 +1,14 @@
-ghost use Rattle.std.specs.Prelude.{◌≡◌, ◌≤◌, length, map};
-ghost use Rattle.tb_wire.specs.Field.{entry_of, text};
+ghost use Rattle.std.specs.Prelude.{◌≡◌, ◌<◌, ◌≤◌, Some, Ok, length, map, IfOk, IfSome};
+ghost use Rattle.tb_wire.specs.Field.{entry_of, field_at, text};
 ghost use Rattle.osm_elements.specs.Reasons.{Gives};
+ghost use Rattle.osm_elements.specs.Slots.{IsField};
 ghost use Rattle.osm_elements.specs.Fields.{fields_of, some_numbers, some_fields, numbers, bodies, merged_fields, last_number, with_found, last_read, if_numbered, one_number, one_body};
 
 use crate::fault::BlockErr;
+use crate::varint::next_varint;
 use std::alloc::Global;
 use tb_types::Why;
-use tb_wire::{Field, FieldValue, read_field, read_varint};
+use tb_wire::{Field, FieldValue, read_field};
 
 /// What is no message, no packed list or no field of its stated type.
 pub(crate) const NO_MESSAGE: BlockErr = BlockErr::Bad(Why::Wire);
@@ -40,6 +42,48 @@ pub(crate) fn put_fields<'a>(out: &mut Vec<Field<'a>>, bytes: &'a [u8]) -> Resul
     Ok(())
 }
 
+/// The field at a place of a message, or `None` at its end.
+pub(crate) fn next_field<'a>(bytes: &'a [u8], at: usize) -> Result<Option<Field<'a>>, BlockErr>
+    requires { at ≤ length bytes.now }
+    ensures exact { IsField bytes.now at result }
+    ensures within { IfOk result (λ found. IfSome found (λ f. (at < f.next) × (f.next ≤ length bytes.now))) }
+{
+    if let Some(field) = short_field(bytes, at) {
+        return Ok(Some(field));
+    }
+    match read_field(bytes, at) {
+        Ok(field) => Ok(field),
+        Err(_) => Err(NO_MESSAGE),
+    }
+}
+
+// The field at a place, if it is bytes, and its tag and its length have one byte each, as most have.
+#[inline(always)]
+fn short_field<'a>(bytes: &'a [u8], at: usize) -> Option<Field<'a>>
+    requires { at ≤ length bytes.now }
+    ensures exact { IfSome result (λ f. Ok (Some (entry_of f, f.next)) ≡ field_at bytes.now at) }
+    ensures within { IfSome result (λ f. (at < f.next) × (f.next ≤ length bytes.now)) }
+{
+    if bytes.len() - at < 2 {
+        return None;
+    }
+    let tag = bytes[at];
+    let len = bytes[at + 1];
+    if tag >= 128 || tag < 8 || tag % 8 != 2 || len >= 128 {
+        return None;
+    }
+    let from = at + 2;
+    let next = from + len as usize;
+    if next > bytes.len() {
+        return None;
+    }
+    Some(Field {
+        number: u32::from(tag / 8),
+        value: FieldValue::Bytes(&bytes[from..next]),
+        next,
+    })
+}
+
 // How many fields a message has, as far as it can be read. It is asked for the room alone.
 fn field_count(bytes: &[u8]) -> usize
     ensures { result ≤ length bytes.now }
@@ -64,8 +108,8 @@ pub(crate) fn last_number(number: u32, fields: &[Field<'_>]) -> Result<Option<u6
     Ok(last)
 }
 
-// The varint of a field of this number, or else the one before it.
-fn later_number(
+/// The varint of a field of this number, or else the one before it.
+pub(crate) fn later_number(
     before: Option<u64>,
     number: u32,
     field: &Field<'_>,
@@ -96,8 +140,12 @@ pub(crate) fn numbers(
     Ok(numbers)
 }
 
-// Adds the varints of a field of this number.
-fn put_numbers(out: &mut Vec<u64>, number: u32, field: &Field<'_>) -> Result<(), BlockErr>
+/// Adds the varints of a field of this number.
+pub(crate) fn put_numbers(
+    out: &mut Vec<u64>,
+    number: u32,
+    field: &Field<'_>,
+) -> Result<(), BlockErr>
     ensures { Gives (λ _. out.new.items) result (with_found out.old.items (if_numbered some_numbers number (entry_of field.now))) }
 {
     if field.number != number {
@@ -120,7 +168,7 @@ fn put_packed(out: &mut Vec<u64>, bytes: &[u8]) -> Result<(), BlockErr>
     out.reserve(varint_count(bytes))?;
     let mut at = 0;
     while at < bytes.len() {
-        match read_varint(bytes, at) {
+        match next_varint(bytes, at) {
             Ok((number, next)) => {
                 at = next;
                 out.push(number)?;

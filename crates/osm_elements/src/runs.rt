@@ -1,30 +1,32 @@
 ghost use Rattle.std.specs.Prelude.{◌≡◌, ℕ, ◌≤◌, map, length, List, [], ◌∷◌, Ok};
 ghost use Rattle.osm_elements.specs.Reasons.{Gives};
-ghost use Rattle.osm_elements.specs.Dense.{behind_run, are_runs, first_run, tag_lists, dense_tags};
+ghost use Rattle.osm_elements.specs.Dense.{behind_run, are_runs, first_run, tag_lists};
 ghost use Rattle.osm_elements.specs.Tags.{with_signed_pair};
-ghost use Rattle.osm_elements.specs.Runs.{check_of, run_check, no_more, seen_run};
+ghost use Rattle.osm_elements.specs.Runs.{check_of, run_check, runs_check, no_more};
+ghost use Rattle.osm_elements.specs.TagRefs.{seen_tags};
+ghost use Rattle.osm_elements.specs.Words.{seen_words};
 
 use crate::fault::BlockErr;
 use crate::signed::low_32;
 use crate::strings::string_at;
 use crate::tag_list::TagList;
-use crate::tags::{is_negative, with_signed_pair};
-use std::alloc::Global;
-use tb_types::{Tags, Why};
+use crate::tags::{is_negative, put_signed_pair};
+use crate::word::Word;
+use tb_types::Why;
 
 /// Lists that belong together and differ in length, or pairs that are no runs.
 const UNEVEN: BlockErr = BlockErr::Bad(Why::Uneven);
 
-/// Checks that the pairs of dense nodes of these ids are a run for each and nothing else, or none at all, and that each
+/// Checks that the pairs of so many dense nodes are a run for each and nothing else, or none at all, and that each
 /// index is one of the table.
-pub(crate) fn check_runs(strings: &[&[u8]], ids: &[u64], pairs: &[u64]) -> Result<(), BlockErr>
-    ensures { Gives (λ _. tt) result (check_of (dense_tags (map (λ b. b.now) strings.now) ids.now pairs.now)) }
+pub(crate) fn check_runs(strings: &[Word<'_>], nodes: usize, pairs: &[u64]) -> Result<(), BlockErr>
+    ensures { Gives (λ _. tt) result (runs_check (seen_words strings.now) nodes pairs.now) }
 {
     if pairs.len() == 0 {
         return Ok(());
     }
-    check_shape(ids.len(), pairs)?;
-    check_pairs(strings, ids.len(), pairs)
+    check_shape(nodes, pairs)?;
+    check_pairs(strings, nodes, pairs)
 }
 
 // Checks that these are so many runs of pairs, with nothing behind the last.
@@ -69,8 +71,8 @@ fn behind_run(pairs: &[u64]) -> Result<&[u64], BlockErr>
 }
 
 // Checks each pair of so many runs.
-fn check_pairs(strings: &[&[u8]], nodes: usize, pairs: &[u64]) -> Result<(), BlockErr>
-    ensures { Gives (λ _. tt) result (check_of (tag_lists (map (λ b. b.now) strings.now) nodes pairs.now)) }
+fn check_pairs(strings: &[Word<'_>], nodes: usize, pairs: &[u64]) -> Result<(), BlockErr>
+    ensures { Gives (λ _. tt) result (check_of (tag_lists (seen_words strings.now) nodes pairs.now)) }
 {
     let mut left = nodes;
     let mut rest = pairs;
@@ -82,8 +84,8 @@ fn check_pairs(strings: &[&[u8]], nodes: usize, pairs: &[u64]) -> Result<(), Blo
 }
 
 // Checks each pair of the first run. It answers what stands behind it.
-fn check_run<'p>(strings: &[&[u8]], pairs: &'p [u64]) -> Result<&'p [u64], BlockErr>
-    ensures { Gives (λ b. b.now) result (run_check (map (λ b. b.now) strings.now) [] pairs.now) }
+fn check_run<'p>(strings: &[Word<'_>], pairs: &'p [u64]) -> Result<&'p [u64], BlockErr>
+    ensures { Gives (λ b. b.now) result (run_check (seen_words strings.now) [] pairs.now) }
 {
     let mut rest = pairs;
     while let Some((key, behind)) = rest.split_first() {
@@ -101,8 +103,8 @@ fn check_run<'p>(strings: &[&[u8]], pairs: &'p [u64]) -> Result<&'p [u64], Block
 }
 
 // Checks that both indexes are in the table.
-fn check_pair(strings: &[&[u8]], key: u64, value: u64) -> Result<(), BlockErr>
-    ensures { Gives (λ _. tt) result (check_of (with_signed_pair (map (λ b. b.now) strings.now) [] key value)) }
+fn check_pair(strings: &[Word<'_>], key: u64, value: u64) -> Result<(), BlockErr>
+    ensures { Gives (λ _. tt) result (check_of (with_signed_pair (seen_words strings.now) [] key value)) }
 {
     if is_negative(key) || is_negative(value) {
         return Err(BlockErr::Bad(Why::Index));
@@ -112,22 +114,22 @@ fn check_pair(strings: &[&[u8]], key: u64, value: u64) -> Result<(), BlockErr>
     Ok(())
 }
 
-/// The tags of the first run, and what stands behind it.
+/// Makes a list of tags that of the first run. It answers what stands behind it.
 pub(crate) fn first_run<'a, 'p>(
-    alloc: Global,
-    strings: &[&'a [u8]],
+    tags: &mut TagList<'a>,
+    strings: &[Word<'a>],
     pairs: &'p [u64],
-) -> Result<(Tags, &'p [u64]), BlockErr>
-    ensures { Gives seen_run result (first_run (map (λ b. b.now) strings.now) [] pairs.now) }
+) -> Result<&'p [u64], BlockErr>
+    ensures { Gives (λ b. (seen_tags tags.new.tags.items, b.now)) result (first_run (seen_words strings.now) [] pairs.now) }
 {
-    let mut tags = TagList::new(alloc, 0)?;
+    tags.clear();
     let mut rest = pairs;
     while let Some((key, behind)) = rest.split_first() {
         if low_32(*key) == 0 {
-            return Ok((tags.finish(), behind));
+            return Ok(behind);
         }
         if let Some((value, others)) = behind.split_first() {
-            tags = with_signed_pair(alloc, tags, strings, *key, *value)?;
+            put_signed_pair(tags, strings, *key, *value)?;
             rest = others;
         } else {
             return Err(UNEVEN);

@@ -1,41 +1,40 @@
 ghost use Rattle.std.specs.Prelude.{◌≡◌, map};
 ghost use Rattle.tb_wire.specs.Field.{entry_of};
 ghost use Rattle.osm_elements.specs.Reasons.{Gives};
-ghost use Rattle.osm_elements.specs.Tags.{strings_of, string_at};
-ghost use Rattle.osm_elements.specs.Walks.{bodies_in};
+ghost use Rattle.osm_elements.specs.Fields.{if_numbered, with_found};
+ghost use Rattle.osm_elements.specs.Heads.{some_strings};
+ghost use Rattle.osm_elements.specs.Tags.{string_at};
+ghost use Rattle.osm_elements.specs.Words.{seen_word, seen_words};
 
 use crate::fault::BlockErr;
-use crate::message::bodies;
-use crate::numbers::{BLOCK_TABLE, TABLE_STRING};
+use crate::message::NO_MESSAGE;
+use crate::numbers::TABLE_STRING;
 use crate::signed::low_32;
 use crate::walk::put_bodies;
-use std::alloc::Global;
+use crate::word::Word;
 use tb_types::Why;
-use tb_wire::Field;
+use tb_wire::{Field, FieldValue};
 
-/// The strings of a block, from its fields.
-#[tactic(auto, using(crate::proofs::Walks::strings_of_walked))]
-pub(crate) fn strings_of<'a>(alloc: Global, fields: &[Field<'a>]) -> Result<Vec<&'a [u8]>, BlockErr>
-    ensures { Gives (λ v. map (λ b. b.now) v.items) result (strings_of (map entry_of fields.now)) }
+/// Adds the strings of a field of this number, which is a table.
+pub(crate) fn put_strings<'a>(
+    out: &mut Vec<Word<'a>>,
+    number: u32,
+    field: &Field<'a>,
+) -> Result<(), BlockErr>
+    ensures { Gives (λ _. seen_words out.new.items) result (with_found (seen_words out.old.items) (if_numbered some_strings number (entry_of field.now))) }
 {
-    let tables = bodies(alloc, BLOCK_TABLE, fields)?;
-    strings_in(alloc, &tables)
-}
-
-// The strings of all tables, which count as one.
-fn strings_in<'a>(alloc: Global, tables: &[&'a [u8]]) -> Result<Vec<&'a [u8]>, BlockErr>
-    ensures { Gives (λ v. map (λ b. b.now) v.items) result (bodies_in 1 (map (λ b. b.now) tables.now)) }
-{
-    let mut strings = Vec::new(alloc);
-    for table in tables {
-        put_bodies(&mut strings, TABLE_STRING, *table)?;
+    if field.number != number {
+        return Ok(());
     }
-    Ok(strings)
+    match field.value {
+        FieldValue::Bytes(table) => put_bodies(out, TABLE_STRING, table),
+        _ => Err(NO_MESSAGE),
+    }
 }
 
 /// The string of an index, of which the low 32 bits count.
-pub(crate) fn string_at<'a>(strings: &[&'a [u8]], index: u64) -> Result<&'a [u8], BlockErr>
-    ensures { Gives (λ b. b.now) result (string_at (map (λ b. b.now) strings.now) index) }
+pub(crate) fn string_at<'a>(strings: &[Word<'a>], index: u64) -> Result<Word<'a>, BlockErr>
+    ensures { Gives seen_word result (string_at (seen_words strings.now) index) }
 {
     match strings.get(low_32(index) as usize) {
         Some(string) => Ok(*string),

@@ -1,117 +1,100 @@
-ghost use Rattle.std.specs.Prelude.{◌≡◌, ℕ, ◌∷◌, ◌++◌, List, [], Ok, IfSome, IfNone, true, false, drop};
-ghost use Rattle.std.specs.Str.{is_utf8};
+ghost use Rattle.std.specs.Prelude.{◌≡◌, ℕ, ◌∷◌, ◌++◌, List, [], Ok, drop};
 ghost use Rattle.std.specs.Cmp.Lexicographic.{slice_cmp};
 ghost use Rattle.std.specs.Ordering.{nat_cmp};
 ghost use Rattle.std.specs.BTreeSet.{contains_by};
 ghost use Rattle.osm_elements.specs.Reasons.{Gives};
 ghost use Rattle.osm_elements.specs.Tags.{with_tag, has_key};
+ghost use Rattle.osm_elements.specs.TagRefs.{seen_tags};
+ghost use Rattle.osm_elements.specs.Words.{seen_word};
 
+use crate::element::TagRef;
 use crate::fault::BlockErr;
+use crate::word::Word;
 use std::alloc::Global;
 use std::collections::BTreeSet;
-use std::str;
-use tb_types::{Seq, Tags, Text};
 
 /// How many tags are walked to find a key.
 const WALKED: usize = 32;
 
-/// The tags of one element while they are found, of which no two have one key.
+/// The tags of one element while they are found, of which no two have one key. It serves one element after another.
 ///
 /// Keys are looked for by a walk over the first tags, and in a set of the keys of all others. So few tags take no memory
 /// for the set, and very many take no time that grows with their square.
 #[derive(Drop)]
 pub(crate) struct TagList<'a> {
-    tags: Vec<(Text, Text)>,
+    pub tags: Vec<TagRef<'a>>,
     others: BTreeSet<&'a str>,
     // the set has the keys of the tags behind the first ones
-    ghost known: { (q : List ℕ) → contains_by (λ k. slice_cmp nat_cmp q k.now) others ≡ has_key q (drop 32 tags.items) },
+    ghost known: { (q : List ℕ) → contains_by (λ k. slice_cmp nat_cmp q k.now) others ≡ has_key q (seen_tags (drop 32 tags.items)) },
 }
 
 impl<'a> TagList<'a> {
-    /// No tags yet, with room for so many, if they are few.
-    pub fn new(alloc: Global, room: usize) -> Result<TagList<'a>, BlockErr>
-        ensures { Gives (λ t. t.tags.items) result (Ok []) }
+    /// No tags yet.
+    pub fn new(alloc: Global) -> TagList<'a>
+        ensures { result.tags.items ≡ [] }
     {
-        let tags = Vec::with_capacity(alloc, room.min(WALKED))?;
-        Ok(TagList {
-            tags,
+        TagList {
+            tags: Vec::new(alloc),
             others: BTreeSet::new(alloc),
-        })
+        }
+    }
+
+    /// Forgets all tags. Their room stays.
+    pub fn clear(&mut self)
+        ensures { self.new.tags.items ≡ [] }
+    {
+        self.tags.clear();
+        self.others.clear();
     }
 
     /// Adds a tag, where both are text and its key is none of those before it.
-    pub fn put(self, alloc: Global, key: &'a [u8], value: &[u8]) -> Result<TagList<'a>, BlockErr>
-        ensures { Gives (λ t. t.tags.items) result (Ok (with_tag self.entry.tags.items key.now value.now)) }
+    pub fn put(&mut self, key: Word<'a>, value: Word<'a>) -> Result<(), BlockErr>
+        ensures { Gives (λ _. seen_tags self.new.tags.items) result (Ok (with_tag (seen_tags self.old.tags.items) (seen_word key.entry) (seen_word value.entry))) }
     {
-        let Some(key) = text(key) else {
-            return Ok(self);
+        let Some(key) = key.text() else {
+            return Ok(());
         };
-        let Some(value) = text(value) else {
-            return Ok(self);
+        let Some(value) = value.text() else {
+            return Ok(());
         };
         if self.has(key) {
-            return Ok(self);
+            return Ok(());
         }
-        self.add(alloc, key, value)
-    }
-
-    /// The tags that were found.
-    pub fn finish(self) -> Tags
-        ensures { result.pairs ≡ self.entry.tags.items }
-    {
-        Tags {
-            pairs: Seq::from_vec(self.tags),
-        }
+        self.add(TagRef { key, value })
     }
 
     // Whether a key is among the tags.
     fn has(&self, key: &str) -> bool
-        ensures { result ≡ has_key key.now self.now.tags.items }
+        ensures { result ≡ has_key key.now (seen_tags self.now.tags.items) }
     {
         let first = self.tags.len().min(WALKED);
         has_key(&self.tags[..first], key) || self.others.contains(key)
     }
 
     // Adds a tag behind the others.
-    fn add(self, alloc: Global, key: &'a str, value: &str) -> Result<TagList<'a>, BlockErr>
-        ensures { Gives (λ t. t.tags.items) result (Ok (self.entry.tags.items ++ (key.now, value.now) ∷ [])) }
+    fn add(&mut self, tag: TagRef<'a>) -> Result<(), BlockErr>
+        ensures { Gives (λ _. self.new.tags.items) result (Ok (self.old.tags.items ++ tag.entry ∷ [])) }
     {
-        let TagList {
-            mut tags,
-            mut others,
-        } = self;
-        let tag = (copy(alloc, key)?, copy(alloc, value)?);
-        if tags.len() >= WALKED {
-            others.insert(key)?;
+        self.tags.push(tag)?;
+        if self.tags.len() <= WALKED {
+            return Ok(());
         }
-        tags.push(tag)?;
-        Ok(TagList { tags, others })
+        match self.others.insert(tag.key) {
+            Ok(_) => Ok(()),
+            Err(_) => {
+                self.tags.pop();
+                Err(BlockErr::Memory)
+            }
+        }
     }
-}
-
-// The bytes as text, if they are UTF-8.
-fn text(bytes: &[u8]) -> Option<&str>
-    ensures some { IfSome result (λ t. (t.now ≡ bytes.now) × (is_utf8 bytes.now ≡ true)) }
-    ensures none { IfNone result (is_utf8 bytes.now ≡ false) }
-{
-    match str::from_utf8(bytes) {
-        Ok(text) => Some(text),
-        Err(_) => None,
-    }
-}
-
-fn copy(alloc: Global, text: &str) -> Result<Text, BlockErr>
-    ensures { Gives (λ t. t) result (Ok text.now) }
-{
-    Ok(Text::from_string(String::from_str(alloc, text)?))
 }
 
 // Whether a key is among these tags.
-fn has_key(tags: &[(Text, Text)], key: &str) -> bool
-    ensures { result ≡ has_key key.now tags.now }
+fn has_key(tags: &[TagRef<'_>], key: &str) -> bool
+    ensures { result ≡ has_key key.now (seen_tags tags.now) }
 {
     for tag in tags {
-        if tag.0.as_str() == key {
+        if tag.key == key {
             return true;
         }
     }

@@ -1,15 +1,16 @@
 //! A message walked for the fields of one number, without a list of all its fields.
 
-ghost use Rattle.std.specs.Prelude.{◌≡◌, ◌<◌, ◌≤◌, [], ◌∷◌, length, map, IfOk, IfSome};
-ghost use Rattle.tb_wire.specs.Field.{entry_of, value_of};
+ghost use Rattle.std.specs.Prelude.{Ok, ◌++◌, ◌≡◌, ◌<◌, ◌≤◌, [], ◌∷◌, length, map, IfOk, IfSome};
+ghost use Rattle.tb_wire.specs.Field.{value_of};
 ghost use Rattle.osm_elements.specs.Reasons.{Gives};
 ghost use Rattle.osm_elements.specs.Fields.{with_found, one_body};
-ghost use Rattle.osm_elements.specs.Walks.{IsNext, bodies_at, merged_fields_in};
+ghost use Rattle.osm_elements.specs.Walks.{IsNext, bodies_at};
+ghost use Rattle.osm_elements.specs.Words.{seen_words};
 
 use crate::fault::BlockErr;
-use crate::message::{NO_MESSAGE, put_fields};
-use std::alloc::Global;
-use tb_wire::{Field, FieldValue, read_field};
+use crate::message::{NO_MESSAGE, next_field};
+use crate::word::Word;
+use tb_wire::FieldValue;
 
 /// The bytes of the next field of a number from a place on, and the place behind it.
 pub(crate) fn next_body<'a>(
@@ -22,17 +23,11 @@ pub(crate) fn next_body<'a>(
     ensures within { IfOk result (λ found. IfSome found (λ b. (from < b.1) × (b.1 ≤ length bytes.now))) }
 {
     let mut at = from;
-    while at < bytes.len() {
-        match read_field(bytes, at) {
-            Ok(Some(field)) => {
-                at = field.next;
-                if field.number == number {
-                    let body = body_of(field.value)?;
-                    return Ok(Some((body, at)));
-                }
-            }
-            Ok(None) => break,
-            Err(_) => return Err(NO_MESSAGE),
+    while let Some(field) = next_field(bytes, at)? {
+        at = field.next;
+        if field.number == number {
+            let body = body_of(field.value)?;
+            return Ok(Some((body, at)));
         }
     }
     Ok(None)
@@ -47,20 +42,28 @@ fn body_of(value: FieldValue<'_>) -> Result<&[u8], BlockErr>
     }
 }
 
-/// Adds the bytes of each field of a number in a message.
+/// Adds the bytes of each field of a number in a message, as strings.
 pub(crate) fn put_bodies<'a>(
-    out: &mut Vec<&'a [u8]>,
+    out: &mut Vec<Word<'a>>,
     number: u32,
     bytes: &'a [u8],
 ) -> Result<(), BlockErr>
-    ensures { Gives (λ _. map (λ b. b.now) out.new.items) result (with_found (map (λ b. b.now) out.old.items) (bodies_at number bytes.now 0)) }
+    ensures { Gives (λ _. seen_words out.new.items) result (with_found (seen_words out.old.items) (bodies_at number bytes.now 0)) }
 {
     out.reserve(body_count(number, bytes))?;
     let mut at = 0;
     while let Some((body, next)) = next_body(number, bytes, at)? {
-        out.push(body)?;
+        put_word(out, body)?;
         at = next;
     }
+    Ok(())
+}
+
+// Adds the string of these bytes.
+fn put_word<'a>(out: &mut Vec<Word<'a>>, bytes: &'a [u8]) -> Result<(), BlockErr>
+    ensures { Gives (λ _. seen_words out.new.items) result (Ok (seen_words out.old.items ++ bytes.now ∷ [])) }
+{
+    out.push(Word::of(bytes))?;
     Ok(())
 }
 
@@ -75,21 +78,4 @@ pub(crate) fn body_count(number: u32, bytes: &[u8]) -> usize
         at = next;
     }
     count
-}
-
-/// The fields of all messages of a number in a message.
-pub(crate) fn merged_fields_in<'a>(
-    alloc: Global,
-    number: u32,
-    bytes: &'a [u8],
-) -> Result<Vec<Field<'a>>, BlockErr>
-    ensures { Gives (λ v. map entry_of v.items) result (merged_fields_in number bytes.now) }
-{
-    let mut fields = Vec::new(alloc);
-    let mut at = 0;
-    while let Some((message, behind)) = next_body(number, bytes, at)? {
-        put_fields(&mut fields, message)?;
-        at = behind;
-    }
-    Ok(fields)
 }

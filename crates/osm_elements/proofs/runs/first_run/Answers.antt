@@ -1,8 +1,10 @@
 use Rattle.std.proofs.Common.{map, ◌∙◌}
+use Rattle.osm_elements.specs.TagRefs.{seen_tags}
 use Rattle.osm_elements.proofs.RunSteps.{pair_joins}
+use Rattle.osm_elements.specs.Words.{seen_words}
 use Rattle.osm_elements.proofs.runs.first_run.Goals as goal
 
 pub loop-key-preserved : goal.loop-key-preserved
 loop-key-preserved c =
-    pair_joins (map (λ b. b.now) c.args.strings.now) c.loop-key.tags.tags.items c.in_ok-tags-2.tags.tags.items c.in-Some.key.now c.in-Some-split_first.value.now c.in-Some-split_first.others.now _
-    (λ z. c.if-low_32-eq0.false (c.low_32.ensures.value ∙ z)) (c.in_ok-tags-2.ensures {u = tt}) (rw (c.in-Some.ensures.cases.0, c.in-Some-split_first.ensures.cases.0) at c.loop-key.invariant)
+    pair_joins (seen_words c.args.strings.now) (seen_tags c.loop-key.tags.tags.items) (seen_tags c.put_signed_pair.new.tags.tags.items) c.in-Some.key.now c.in-Some-split_first.value.now c.in-Some-split_first.others.now _
+    (λ z. c.if-low_32-eq0.false (c.low_32.ensures.value ∙ z)) (c.in_ok-put_signed_pair.ensures {u = tt}) (rw (c.in-Some.ensures.cases.0, c.in-Some-split_first.ensures.cases.0) at c.loop-key.invariant)

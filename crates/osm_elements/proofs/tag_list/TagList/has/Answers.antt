@@ -1,6 +1,5 @@
 use Rattle.std.proofs.Common.{◌≡◌, ◌||◌, true, false, min, length, take, drop, ap, ◌∙◌, arith}
-use Rattle.osm_elements.specs.Tags.{has_key}
-use Rattle.osm_elements.proofs.TagLists.{first_or_others}
+use Rattle.osm_elements.proofs.TagLists.{has, first_or_others}
 use Rattle.osm_elements.proofs.tag_list.TagList.has.Goals as goal
 
 pub returns-then-has_key : goal.returns-then-has_key
@@ -9,8 +8,8 @@ returns-then-has_key c =
     let tags = c.args.self.now.tags.items in
     let n = c.min-first.result in
     let few : n ≡ min (length tags) 32 = omega (arith, c.min-first.ensures, c.len.ensures, c.args.self.now.tags.ok.0) in
-    let found : true ≡ has_key key (take n tags) = c.if-has_key.ensures {u = tt} ∙ ap (λ xs. has_key key (take n xs)) c.deref.ensures.value in
-    c.if-has_key.true ∙ (ap (λ b. b || has_key key (drop 32 tags)) found ∙ first_or_others key tags n 32 few)
+    let found : true ≡ has key (take n tags) = c.if-has_key.ensures {u = tt} ∙ ap (λ xs. has key (take n xs)) c.deref.ensures.value in
+    c.if-has_key.true ∙ (ap (λ b. b || has key (drop 32 tags)) found ∙ first_or_others key tags n 32 few)
 
 pub returns-else-has_key : goal.returns-else-has_key
 returns-else-has_key c =
@@ -18,5 +17,5 @@ returns-else-has_key c =
     let tags = c.args.self.now.tags.items in
     let n = c.min-first.result in
     let few : n ≡ min (length tags) 32 = omega (arith, c.min-first.ensures, c.len.ensures, c.args.self.now.tags.ok.0) in
-    let none : false ≡ has_key key (take n tags) = c.if-has_key.ensures {u = tt} ∙ ap (λ xs. has_key key (take n xs)) c.deref.ensures.value in
-    c.contains.ensures ∙ (c.args.self.now.known key ∙ (ap (λ b. b || has_key key (drop 32 tags)) none ∙ first_or_others key tags n 32 few))
+    let none : false ≡ has key (take n tags) = c.if-has_key.ensures {u = tt} ∙ ap (λ xs. has key (take n xs)) c.deref.ensures.value in
+    c.contains.ensures ∙ (c.args.self.now.known key ∙ (ap (λ b. b || has key (drop 32 tags)) none ∙ first_or_others key tags n 32 few))
