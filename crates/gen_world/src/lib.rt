@@ -23,6 +23,7 @@ mod word;
 mod worked;
 mod world;
 
+pub use numbers::Numbers;
 pub use worked::worked_extracts;
 pub use world::{GenWorld, gen_blocks};
 

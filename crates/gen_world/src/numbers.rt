@@ -29,6 +29,13 @@ impl Numbers {
         }
     }
 
+    /// The number that was taken last, or the seed where none was.
+    pub fn last(&self) -> u64
+        ensures { result ≡ number self.now.seed self.now.taken }
+    {
+        self.last
+    }
+
     /// Takes the next number, as a draw out of `m` numbers.
     pub fn draw(&mut self, m: u64) -> u64
         requires some { 0 < m }
