@@ -8,7 +8,7 @@ use Rattle.pbf_blobs.specs.Frames.{frames_of}
 use Rattle.profile_rules.specs.declared.parts.Parts.{Parts}
 use Rattle.tile_model.specs.declared.stop.Stop.{Stop}
 use Rattle.tile_model.specs.Needs.{largest, block_needs}
-use Rattle.build_one.specs.declared.found.Found.{Found}
+use Rattle.pass_survey.specs.declared.found.Found.{Found}
 use Rattle.build_one.specs.Made.{GatherAnswers, GatherCounts, Gathers}
 use Rattle.build_one.specs.Extracts.{AreFramed}
 

@@ -43,13 +43,13 @@ use Rattle.run_merge.specs.Objects.{Objects}
 use Rattle.run_merge.specs.Steps.{AreReadable}
 use Rattle.std.proofs.lemmas.List.Elements.{recursion_from_All}
 use Rattle.tile_model.specs.Stops.{stage_of}
-use Rattle.build_one.specs.declared.found.Found.{Found}
+use Rattle.pass_survey.specs.declared.found.Found.{Found}
 use Rattle.build_one.specs.Answers.{BuildAnswers, OnBuilt, IfTold, IsDue, IsJudged, HasCause, Writes, ReadsBack, Decodes, RunsAre, WritesRuns, Loads, reached}
 use Rattle.build_one.specs.Made.{GatherAnswers, IsDueBy, IsKnown, MapCounts, MapWritten, runs_named}
 use Rattle.build_one.specs.Passes.{IsGathered, IsOver, needs_in, OfSurveyed}
 use Rattle.build_one.specs.Stages.{stop_of_survey}
 use Rattle.build_one.specs.Extracts.{ReadsParts, AreFramed}
-use Rattle.build_one.specs.Found.{HasSurveyed}
+use Rattle.pass_survey.specs.Told.{HasSurveyed, box_of}
 use Rattle.build_one.specs.Survey.{IsApart, Surveys, survey_failed}
 use Rattle.build_one.specs.Writing.{all_groups}
 use Rattle.build_one.proofs.Causes
@@ -235,7 +235,7 @@ module _ (from : ProfileFrom) (budget : ℕ) (p p' r : SourceSeen) (s o : SpillS
 
           -- ---- the map is written, or it isn't
 
-          module _ {L : Type 0} (lane : L) (runs : List RunAt) (box : Option Bounds) (sound : IsSound parts) (is : box ≡ unwrap_or found.header_box None) (a : GatherAnswers parts part limit found r r' s s' (Ok runs)) where
+          module _ {L : Type 0} (lane : L) (runs : List RunAt) (box : Option Bounds) (sound : IsSound parts) (is : box ≡ unwrap_or (box_of found.header) None) (a : GatherAnswers parts part limit found r r' s s' (Ok runs)) where
             abbrev lanes : Objects L
             lanes = seen_by (lane ∷ []) s' o
 

@@ -34,14 +34,14 @@ use Rattle.feature_runs.specs.Added.{KeepsAdded}
 use Rattle.feature_runs.specs.Writing.{Flushes}
 use Rattle.pass_shapes.specs.Emitting.{Emits}
 use Rattle.pass_shapes.specs.EmitLaws.{emits-none, emits-on, frames-memory, frames-on}
-use Rattle.build_one.specs.declared.found.Found.{Found}
+use Rattle.pass_survey.specs.declared.found.Found.{Found}
 use Rattle.build_one.specs.declared.stop.PassStop.{PassStop}
 use Rattle.build_one.specs.declared.stop.PassStop.TheVariants as pass_stops
 use Rattle.build_one.specs.declared.stop.RelationStop.{RelationStop}
 use Rattle.build_one.specs.declared.stop.RelationStop.TheVariants as relation_stops
-use Rattle.build_one.specs.Found.{HasSurveyed}
+use Rattle.pass_survey.specs.Told.{HasSurveyed}
 use Rattle.build_one.specs.Made.{Gathers, GatherAnswers}
-use Rattle.build_one.specs.Passes.{as_content, Adds, AreMembers, AreNeeded, ArePlaced, AreDrawn, IsGathered, IsOver, needs_in, OfSurveyed, Ran, Reads, as_added}
+use Rattle.build_one.specs.Passes.{as_content, Adds, AreMembers, AreNeeded, ArePlaced, AreDrawn, IsGathered, IsOver, IsDamaged, needs_in, OfSurveyed, Ran, Reads, as_added}
 use Rattle.build_one.specs.Stages.{stop_of_pass, stop_of_relations}
 use Rattle.build_one.specs.Survey.{IsApart, NoSpill, source_failed, as_spilled, pass_stop_of}
 use Rattle.build_one.proofs.Gathering.{gathered-needs, gathered-items}
@@ -203,9 +203,9 @@ same-frames A parts s stop alone =
     let b : Buffered = record { limit = 0; runs = []; entries = [] } in
     load-frames A parts [] s s b b stop alone (emits-none parts s b)
 
--- the damage that a pass found is that of its blocks
+-- a pass that found damage did so among its blocks
 pub damaged-by : {A : Type 0} (P : A → List (ℕ × Block) → Type 0) (blocks other : List BlockAt) (told now : Option (List ℕ)) (e : PassStop) → blocks ≡ other → now ≡ told → Reads P blocks now (Err e) → (damage : Damage) → e ≡ pass_stops.Damage damage
-    → IfSome told (λ extract. contents_at extract other ≡ Err damage)
+    → IfSome told (λ extract. IsDamaged (contents_at extract other))
 damaged-by P blocks other told now e same is r damage at =
-    let found : IfSome now (λ extract. contents_at extract blocks ≡ Err damage) = subst (λ x. Reads P blocks now (Err x)) at r in
-    subst (λ bs. IfSome told (λ extract. contents_at extract bs ≡ Err damage)) same (subst (λ (o : Option (List ℕ)). IfSome o (λ extract. contents_at extract blocks ≡ Err damage)) is found)
+    let found : IfSome now (λ extract. IsDamaged (contents_at extract blocks)) = subst (λ x. Reads P blocks now (Err x)) at r in
+    subst (λ bs. IfSome told (λ extract. IsDamaged (contents_at extract bs))) same (subst (λ (o : Option (List ℕ)). IfSome o (λ extract. IsDamaged (contents_at extract blocks))) is found)

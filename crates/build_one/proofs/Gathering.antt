@@ -1,5 +1,5 @@
 -- What the passes gather, one after another, are the items of the features of the extract.
-use Rattle.std.proofs.Common.{◌≡◌, ℕ, Bool, true, false, cond, Option, None, Some, IfSome, Ok, Err, List, [], ◌∷◌, ◌++◌, filter, filter_map, flat_map, map, length, true≢false, arith, refl, sym, ap, subst, ◌∙◌}
+use Rattle.std.proofs.Common.{◌≡◌, ℕ, Bool, true, false, cond, Option, None, Some, IfSome, Result, Ok, List, [], ◌∷◌, ◌++◌, filter, filter_map, flat_map, map, length, true≢false, arith, refl, sym, ap, subst, ◌∙◌}
 use Rattle.std.proofs.lemmas.Bool.{lt-ltb}
 use Rattle.std.proofs.lemmas.Grind.{flat_map-append}
 use Rattle.tb_types.specs.declared.damage.Damage.{Damage}
@@ -36,15 +36,15 @@ use Rattle.pass_shapes.proofs.Locating.{ways-located}
 use Rattle.pass_shapes.proofs.Shaping.{kept-shaped, members-shaped, same-needs}
 use Rattle.pass_shapes.specs.Kept.{kept_features, needs_of}
 use Rattle.pass_survey.specs.Kept.{kept_of, kept_in, all_kept}
-use Rattle.build_one.specs.declared.found.Found.{Found}
-use Rattle.build_one.specs.Found.{HasSurveyed}
+use Rattle.pass_survey.specs.declared.found.Found.{Found}
+use Rattle.pass_survey.specs.Told.{HasSurveyed}
 use Rattle.tb_types.specs.Needs.{relation_need}
 use Rattle.member_sets.specs.declared.kept.KeptRelation.{KeptRelation}
 use Rattle.node_store.specs.declared.shaped.Shaped.{Shaped}
 use Rattle.tile_model.specs.Needs.{member_points, relation_needs}
 use Rattle.std.specs.List.{AllByRecursion}
 use Rattle.std.proofs.lemmas.List.{map-append}
-use Rattle.build_one.specs.Passes.{as_content, AreMembers, AreNeeded, needs_in, OfSurveyed}
+use Rattle.build_one.specs.Passes.{as_content, AreMembers, AreNeeded, IsDamaged, needs_in, OfSurveyed}
 use Rattle.build_one.specs.Survey.{IsApart}
 
 -- blocks that were read are those of their contents
@@ -179,13 +179,13 @@ module _ (parts : Parts) (found : Found) (extract : List ℕ) (contents : List C
         ∙ sym (λ i. emitted_items (points i) ++ (emitted_items (lines i) ++ emitted_items (areas i))))
 
 -- a pass finds no damage where the survey found none
-no-damage : (extract : List ℕ) (blocks : List BlockAt) (contents : List Content) (damage : Damage) → contents_at extract blocks ≡ Ok contents → contents_at extract blocks ≡ Err damage → ⊥
-no-damage extract blocks contents damage h k = let no = sym h ∙ k in absurd cc
+no-damage : (contents : List Content) (r : Result (List Content) Damage) → r ≡ Ok contents → IsDamaged r → ⊥
+no-damage contents r h k = subst IsDamaged h k
 
-pub damaged-ways : (parts : Parts) (found : Found) (told : Option (List ℕ)) (damage : Damage) → IfSome told (λ extract. contents_at extract found.ways.items ≡ Err damage) → OfSurveyed parts told found (λ contents. ⊥)
-damaged-ways parts found None damage r = tt
-damaged-ways parts found (Some extract) damage r = λ contents h apart. no-damage extract found.ways.items (filter has_ways contents) damage h.ways r
+pub damaged-ways : (parts : Parts) (found : Found) (told : Option (List ℕ)) → IfSome told (λ extract. IsDamaged (contents_at extract found.ways.items)) → OfSurveyed parts told found (λ contents. ⊥)
+damaged-ways parts found None r = tt
+damaged-ways parts found (Some extract) r = λ contents h apart. no-damage (filter has_ways contents) (contents_at extract found.ways.items) h.ways r
 
-pub damaged-nodes : (parts : Parts) (found : Found) (told : Option (List ℕ)) (damage : Damage) → IfSome told (λ extract. contents_at extract found.nodes.items ≡ Err damage) → OfSurveyed parts told found (λ contents. ⊥)
-damaged-nodes parts found None damage r = tt
-damaged-nodes parts found (Some extract) damage r = λ contents h apart. no-damage extract found.nodes.items (filter has_nodes contents) damage h.nodes r
+pub damaged-nodes : (parts : Parts) (found : Found) (told : Option (List ℕ)) → IfSome told (λ extract. IsDamaged (contents_at extract found.nodes.items)) → OfSurveyed parts told found (λ contents. ⊥)
+damaged-nodes parts found None r = tt
+damaged-nodes parts found (Some extract) r = λ contents h apart. no-damage (filter has_nodes contents) (contents_at extract found.nodes.items) h.nodes r

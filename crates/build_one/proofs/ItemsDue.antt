@@ -19,17 +19,20 @@ use Rattle.build_one.specs.Answers.{BuildAnswers}
 use Rattle.build_one.specs.Made.{IsKnown, MapWritten}
 use Rattle.build_one.specs.declared.extract.Items.{Items}
 use Rattle.build_one.specs.Extracts.{ReadsParts, HasItems, at_lane}
-use Rattle.build_one.specs.Found.{IsReadyBox}
 use Rattle.pmtiles_dirs.specs.Bounds.{CanBeWritten}
 use Rattle.build_one.specs.Writing.{all_groups}
 use Rattle.build_one.proofs.MapDue.{seen_by, told_of}
+use Rattle.pass_survey.specs.declared.header.HeaderAt.{HeaderAt}
+use Rattle.pass_survey.specs.Told.{box_of}
+use Rattle.pass_survey.specs.Found.{IsValidBox}
+use Rattle.build_one.proofs.Boxes.{some-written}
 use Rattle.build_one.proofs.Runs.{runs-readable}
 use Rattle.build_one.proofs.Builds.{map-answers}
 
 -- the box of the items can be written
-pub ready-box : (found : Option (Option Bounds)) (box : Option Bounds) → box ≡ unwrap_or found None → IsReadyBox found → IfSome box CanBeWritten
+pub ready-box : (found : Option HeaderAt) (box : Option Bounds) → box ≡ unwrap_or (box_of found) None → IfSome found IsValidBox → IfSome box CanBeWritten
 ready-box None box is h = subst (λ b. IfSome b CanBeWritten) (sym is) tt
-ready-box (Some first) box is h = subst (λ b. IfSome b CanBeWritten) (sym is) h
+ready-box (Some first) box is h = subst (λ b. IfSome b CanBeWritten) (sym is) (some-written first.bounds h)
 
 module _ (parts : Parts) (budget : ℕ) (r r' : SourceSeen) (s s' o : SpillSeen) {L : Type 0} (lane : L) (sound : IsSound parts) (items : Items) (h : HasItems parts budget r r' s s' items) where
   pub items-readable : AreReadable (seen_by (lane ∷ []) s' o) (length (layers_of parts)) (named_runs (items.runs ∷ []))

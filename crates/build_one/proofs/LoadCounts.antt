@@ -25,11 +25,13 @@ use Rattle.osm_elements.specs.Block.{block_of}
 use Rattle.tile_model.specs.Contents.{Content, header, elements, unread, body_at, content_at, content_of, contents_at, in_block, with_later}
 use Rattle.tile_model.specs.Loads.{whole, touches, has_nodes, has_ways, holds, that_hold, loads_at, IsLoaded, Logs, AreLoaded}
 use Rattle.tile_model.specs.Needs.{is_read}
-use Rattle.build_one.specs.declared.found.Found.{Found}
-use Rattle.build_one.specs.Found.{AreListed, HasFound}
-use Rattle.build_one.specs.Made.{loads_behind}
-use Rattle.build_one.specs.Survey.{Surveys, loads_of}
-use Rattle.build_one.proofs.Logs.{logs-on}
+use Rattle.pass_survey.specs.declared.found.Found.{Found}
+use Rattle.build_one.specs.Survey.{AreListed, HasFound}
+use Rattle.pass_order.specs.declared.order.Order.TheVariants as orders
+use Rattle.block_pass.proofs.Places.{in-file}
+use Rattle.build_one.specs.Made.{loads_behind, loads_in}
+use Rattle.build_one.specs.Survey.{Surveys, loads_of, read_of}
+use Rattle.block_pass.proofs.Logs.{logs-on}
 
 -- ---- frames lie apart
 
@@ -273,7 +275,7 @@ held parts extract found (Err damage) h = absurd h
 
 -- What a scan, a survey and the passes behind it loaded is due.
 pub loads-due : (parts : Parts) (r0 r1 r2 r3 : SourceSeen) (blocks : List BlockAt) (found : Found) → IfSome r0.bytes (λ extract. frames_of extract ≡ Ok blocks) → IfSome r0.bytes (λ extract. Grows r0.log r1.log (IsOfHeads extract (frames_before extract)))
-    → IfSome r0.bytes (λ extract. Surveys parts extract blocks (Ok found) (contents_at extract blocks)) → Logs r1 r2 (loads_of blocks) → Logs r2 r3 (loads_behind found)
+    → IfSome r0.bytes (λ extract. Surveys parts extract blocks (Ok found) (contents_at extract blocks)) → Logs r1 r2 (loads_in orders.InFile (read_of blocks)) → Logs r2 r3 (loads_behind orders.InFile found)
     → IfSome r0.bytes (λ extract. AreLoaded extract (r0 ∷ []) (r3 ∷ []))
 loads-due parts r0 r1 r2 r3 blocks found frames scanned surveys surveyed gathered = by r0.bytes frames scanned surveys
   where
@@ -286,8 +288,9 @@ loads-due parts r0 r1 r2 r3 blocks found frames scanned surveys surveyed gathere
         let heads = grown-heads (IsOfHeads extract before) r0 r1 g in
         let contents = held parts extract found (contents_at extract blocks) s.0 in
         let listed : AreListed extract blocks found = s.3 in
-        let behind-is : loads_behind found ≡ map whole (that_hold has_ways extract blocks) ++ (map whole (that_hold has_nodes extract blocks) ++ map whole (that_hold has_ways extract blocks)) =
-        (λ i. map whole (listed.ways i) ++ (map whole (listed.nodes i) ++ map whole (listed.ways i))) in
+        let in-order : (bs : List BlockAt) → loads_in orders.InFile bs ≡ map whole bs = λ bs. ap (map whole) (in-file bs) in
+        let behind-is : loads_behind orders.InFile found ≡ map whole (that_hold has_ways extract blocks) ++ (map whole (that_hold has_nodes extract blocks) ++ map whole (that_hold has_ways extract blocks)) =
+        (λ i. in-order found.ways.items i ++ (in-order found.nodes.items i ++ in-order found.ways.items i)) ∙ (λ i. map whole (listed.ways i) ++ (map whole (listed.nodes i) ++ map whole (listed.ways i))) in
         let misses = subst (λ bs. AllByRecursion (λ load. AllByRecursion (Misses load) bs) heads.heads) is (heads-each extract before heads.heads (recursion_from_All (IsOfHeads extract before) heads.heads heads.each)) in
         let loads = all-loads extract heads.heads blocks in
         let due = all-due extract heads.heads blocks contents.0 (subst (Pairs Apart) is (before-apart extract)) contents.1 misses in
@@ -295,7 +298,7 @@ loads-due parts r0 r1 r2 r3 blocks found frames scanned surveys surveyed gathere
           loads = loads ∷ [];
           logged = (
             logs-on r0 r1 r3 heads.heads _ heads.logged
-                (logs-on r1 r2 r3 (loads_of blocks) _ surveyed (subst (Logs r2 r3) behind-is gathered)),
+                (logs-on r1 r2 r3 (loads_of blocks) _ (subst (Logs r1 r2) (in-order (read_of blocks)) surveyed) (subst (Logs r2 r3) behind-is gathered)),
             tt,
           );
           each = λ others again.

@@ -17,7 +17,8 @@ use Rattle.tile_model.specs.Loads.{AreLoaded}
 use Rattle.tile_model.specs.Needs.{largest, block_needs, run_limit}
 use Rattle.tile_model.specs.Objects.{Objects}
 use Rattle.build_one.specs.declared.extract.Items.{Items}
-use Rattle.build_one.specs.declared.found.Found.{Found}
+use Rattle.pass_survey.specs.declared.found.Found.{Found}
+use Rattle.pass_survey.specs.Told.{box_of}
 use Rattle.build_one.specs.Answers.{BuildAnswers}
 use Rattle.build_one.specs.Made.{GatherAnswers}
 use Rattle.build_one.specs.Survey.{Surveys}
@@ -46,7 +47,7 @@ pub record HasItems (parts : Parts) (budget : ℕ) (r r' : SourceSeen) (s s' : S
   pub surveys : IfSome r.bytes (λ extract. Surveys parts extract blocks (Ok found) (contents_at extract blocks))
   pub gathered : GatherAnswers parts (batch_part budget) (run_limit budget 1) found r r' s s' (Ok items.runs)
   pub loaded : IfSome r.bytes (λ extract. AreLoaded extract (r ∷ []) (r' ∷ []))
-  pub box : items.bounds ≡ unwrap_or found.header_box None
+  pub box : items.bounds ≡ unwrap_or (box_of found.header) None
   pub ready : IfSome items.bounds CanBeWritten
 
 -- the items are there; or a build that stops here keeps its promise, whatever its other objects are

@@ -1,6 +1,5 @@
 pub mod Answers
 pub mod Extracts
-pub mod Found
 pub mod Made
 pub mod Profiles
 pub mod Stages
@@ -8,3 +7,6 @@ pub mod Survey
 pub mod Passes
 pub mod Worked
 pub mod Writing
+pub mod Props
+pub mod Works
+pub mod WorkLaws

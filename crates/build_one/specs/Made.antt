@@ -9,6 +9,10 @@ use Rattle.tb_outside.specs.Source.{SourceSeen}
 use Rattle.tb_outside.specs.Spill.{Runs, SpillSeen}
 use Rattle.tb_outside.specs.Sink.{SinkSeen}
 use Rattle.tb_outside.specs.declared.spill.RunAt.{RunAt}
+use Rattle.pbf_blobs.specs.declared.block.BlockAt.{BlockAt}
+use Rattle.pass_order.specs.declared.order.Order.{Order}
+use Rattle.pass_order.specs.Orders.{next_order}
+use Rattle.block_pass.specs.Orders.{load_order, needs_of}
 use Rattle.profile_rules.specs.declared.parts.Parts.{Parts}
 use Rattle.mvt_codec.specs.declared.item.RunItem.{RunItem}
 use Rattle.pmtiles_dirs.specs.declared.totals.Totals.{Totals}
@@ -22,15 +26,25 @@ use Rattle.tile_model.specs.Due.{Due, due_of_groups}
 use Rattle.tile_model.specs.Loads.{whole}
 use Rattle.tile_model.specs.Map.{groups_of, layer_names, meta_of}
 use Rattle.tile_model.specs.Objects.{if_told}
-use Rattle.build_one.specs.declared.found.Found.{Found}
+use Rattle.pass_survey.specs.declared.found.Found.{Found}
 use Rattle.build_one.specs.Answers.{IsDue, IfTold, Writes, ReadsBack, Decodes}
 use Rattle.build_one.specs.Passes.{IsGathered, IsOver, OfSurveyed, Ran}
 
 -- ---- the passes behind the survey
 
--- what they load, each body whole: of blocks with ways, of those with nodes, and of those with ways again
-abbrev pub loads_behind : Found → List (ℕ × ℕ)
-loads_behind found = map whole found.ways.items ++ (map whole found.nodes.items ++ map whole found.ways.items)
+-- What they load, each body whole and in the order of the pass: of blocks with ways, of those with nodes, and of those with ways again.
+abbrev pub loads_in : Order → List BlockAt → List (ℕ × ℕ)
+loads_in order blocks = map whole (load_order order blocks)
+
+-- the orders of the passes behind that over members
+abbrev pub nodes_order : Order → Found → Order
+nodes_order order found = next_order order (needs_of found.ways.items)
+
+abbrev pub ways_order : Order → Found → Order
+ways_order order found = next_order (nodes_order order found) (needs_of found.nodes.items)
+
+abbrev pub loads_behind : Order → Found → List (ℕ × ℕ)
+loads_behind order found = loads_in order found.ways.items ++ (loads_in (nodes_order order found) found.nodes.items ++ loads_in (ways_order order found) found.ways.items)
 
 -- which counts rose; no other stop comes
 abbrev pub GatherCounts : {A : Type 0} → Result A Stop → ℕ → ℕ → SpillSeen → SpillSeen → Type 0

@@ -1,6 +1,7 @@
 -- What a pass over blocks of elements answers.
 use Rattle.std.specs.Prelude.{◌≡◌, ℕ, ◌≤◌, ◌<◌, Option, Some, IfSome, Result, Ok, Err, List, [], All, map, flat_map}
 use Rattle.std.specs.List.Sorted.{IsPermutation}
+use Rattle.tb_types.specs.declared.damage.Damage.{Damage}
 use Rattle.pbf_blobs.specs.declared.block.BlockAt.{BlockAt}
 use Rattle.osm_elements.specs.declared.element.Block.{Block}
 use Rattle.profile_rules.specs.declared.parts.Parts.{Parts}
@@ -17,7 +18,7 @@ use Rattle.tb_outside.specs.declared.spill.RunAt.{RunAt}
 use Rattle.feature_runs.specs.Entry.{Buffered, entry_of}
 use Rattle.feature_runs.specs.Added.{AreThere}
 use Rattle.feature_runs.specs.Since.{IsSince}
-use Rattle.tile_model.specs.Contents.{Content, elements, content_at, contents_at}
+use Rattle.tile_model.specs.Contents.{Content, elements, contents_at}
 use Rattle.tile_model.specs.Extract.{features_of, all_refs, shape_of}
 use Rattle.tile_model.specs.Items.{AreSound}
 use Rattle.tile_model.specs.Map.{blocks_in}
@@ -28,7 +29,7 @@ use Rattle.tile_model.specs.Ways.{ways_of}
 use Rattle.pass_survey.specs.Kept.{members_of}
 use Rattle.pass_shapes.specs.Emitting.{Emits}
 use Rattle.pass_shapes.specs.Stores.{locate_in, is_needed, located_in, shaped_in}
-use Rattle.build_one.specs.declared.found.Found.{Found}
+use Rattle.pass_survey.specs.declared.found.Found.{Found}
 use Rattle.node_store.specs.declared.shaped.Shaped.{Shaped}
 use Rattle.tb_outside.specs.declared.spill.SpillErr.{SpillErr}
 use Rattle.tb_outside.specs.declared.spill.SpillErr.TheVariants as spill_errors
@@ -37,25 +38,22 @@ use Rattle.build_one.specs.declared.stop.RelationStop.{RelationStop}
 use Rattle.build_one.specs.declared.stop.RelationStop.TheVariants as relation_stops
 use Rattle.build_one.specs.declared.stop.PassStop.{PassStop}
 use Rattle.build_one.specs.declared.stop.PassStop.TheVariants as stops
-use Rattle.build_one.specs.Found.{HasSurveyed}
+use Rattle.pass_survey.specs.Told.{HasSurveyed}
 use Rattle.build_one.specs.Survey.{IsApart}
 
 -- a read block as what the extract holds
 abbrev pub as_content : ℕ × Block → Content
 as_content b = elements b.0 b.1
 
--- it is what a block of elements holds, or its damage
-abbrev pub Loads : List ℕ → BlockAt → Result Block PassStop → Type 0
-Loads extract b (Ok block) = content_at extract b ≡ Ok (elements b.no block)
-Loads extract b (Err (stops.Damage damage)) = content_at extract b ≡ Err damage
-Loads extract b (Err stops.Source) = Unit {0}
-Loads extract b (Err stops.Spill) = Unit {0}
-Loads extract b (Err stops.Memory) = Unit {0}
+-- some block is damaged
+abbrev pub IsDamaged : Result (List Content) Damage → Type 0
+IsDamaged (Ok contents) = ⊥
+IsDamaged (Err damage) = Unit {0}
 
 -- what P says of what was gathered and of the blocks that were read; where the extract is told, they are its blocks
 abbrev pub Reads : {A : Type 0} → (A → List (ℕ × Block) → Type 0) → List BlockAt → Option (List ℕ) → Result A PassStop → Type 0
 Reads P blocks told (Ok x) = (read : List (ℕ × Block)) × P x read × IfSome told (λ extract. contents_at extract blocks ≡ Ok (map as_content read))
-Reads P blocks told (Err (stops.Damage damage)) = IfSome told (λ extract. contents_at extract blocks ≡ Err damage)
+Reads P blocks told (Err (stops.Damage damage)) = IfSome told (λ extract. IsDamaged (contents_at extract blocks))
 Reads P blocks told (Err stops.Source) = Unit {0}
 Reads P blocks told (Err stops.Spill) = Unit {0}
 Reads P blocks told (Err stops.Memory) = Unit {0}

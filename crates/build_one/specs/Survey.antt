@@ -1,5 +1,5 @@
 -- What a survey of an extract answers, and what it leaves of its reader.
-use Rattle.std.specs.Prelude.{◌≡◌, ℕ, Bool, true, false, Result, Ok, Err, List, All, length, map, filter, ⊤}
+use Rattle.std.specs.Prelude.{◌≡◌, ℕ, ◌≤◌, Bool, true, false, Contains, Option, Result, Ok, Err, List, All, length, map, filter, ⊤}
 use Rattle.tb_types.specs.declared.damage.Damage.{Damage}
 use Rattle.pbf_blobs.specs.Answers.{IsShort}
 use Rattle.pbf_blobs.specs.declared.block.BlockAt.{BlockAt}
@@ -10,17 +10,19 @@ use Rattle.sorted_lists.specs.Sorting.{KeysDiffer}
 use Rattle.tile_model.specs.Contents.{Content}
 use Rattle.tile_model.specs.Extract.{all_nodes, all_ways, features_of}
 use Rattle.tile_model.specs.Features.{name_of}
-use Rattle.tile_model.specs.Loads.{whole}
+use Rattle.tile_model.specs.Loads.{whole, has_nodes, has_ways, that_hold}
+use Rattle.pass_order.specs.declared.order.Order.{Order}
+use Rattle.pass_order.specs.Orders.{MayPass}
+use Rattle.block_pass.specs.Loading.{FitsIn}
+use Rattle.block_pass.specs.Orders.{needs_of}
+use Rattle.pass_survey.specs.Told.{HasSurveyed}
 use Rattle.tile_model.specs.Map.{blocks_in}
 use Rattle.tile_model.specs.Needs.{is_read}
-use Rattle.build_one.specs.declared.found.Found.{Found}
-use Rattle.build_one.specs.declared.stop.LoadStop.{LoadStop}
-use Rattle.build_one.specs.declared.stop.LoadStop.TheVariants as loads
+use Rattle.pass_survey.specs.declared.found.Found.{Found}
 use Rattle.tb_outside.specs.declared.spill.SpillErr.{SpillErr}
 use Rattle.tb_outside.specs.declared.spill.SpillErr.TheVariants as spill_errors
 use Rattle.build_one.specs.declared.stop.PassStop.{PassStop}
 use Rattle.build_one.specs.declared.stop.PassStop.TheVariants as passes
-use Rattle.build_one.specs.Found.{HasFound, AreListed}
 
 -- no two features have one name, and no two nodes or ways one place
 pub record IsApart (parts : Parts) (contents : List Content) : Type 0 where
@@ -31,6 +33,16 @@ pub record IsApart (parts : Parts) (contents : List Content) : Type 0 where
 abbrev pub AreApart : Parts → Result (List Content) Damage → Type 0
 AreApart parts (Ok contents) = IsApart parts contents
 AreApart parts (Err damage) = Unit {0}
+
+-- what stands there is what blocks hold that aren't damaged
+abbrev pub HasFound : Parts → List ℕ → Found → Result (List Content) Damage → Type 0
+HasFound parts extract f (Ok contents) = HasSurveyed parts extract f contents
+HasFound parts extract f (Err damage) = ⊥
+
+-- the lists have just the blocks with nodes, and those with ways, in the order of the blocks
+pub record AreListed (extract : List ℕ) (blocks : List BlockAt) (f : Found) : Type 0 where
+  pub nodes : f.nodes.items ≡ that_hold has_nodes extract blocks
+  pub ways : f.ways.items ≡ that_hold has_ways extract blocks
 
 -- the blocks that were found lie within the extract
 pub record LieWithin (size : ℕ) (f : Found) : Type 0 where
@@ -44,9 +56,19 @@ Surveys parts extract blocks (Err (stops.Damage damage)) contents = contents ≡
 Surveys parts extract blocks (Err stops.Failed) contents = Unit {0}
 Surveys parts extract blocks (Err stops.Memory) contents = Unit {0}
 
--- the loads of those of some blocks that are read, each whole
+-- those of some blocks that are read, and the loads of these, each whole
+abbrev pub read_of : List BlockAt → List BlockAt
+read_of blocks = filter (λ (b : BlockAt). is_read b.kind) blocks
+
 abbrev pub loads_of : List BlockAt → List (ℕ × ℕ)
-loads_of blocks = map whole (filter (λ (b : BlockAt). is_read b.kind) blocks)
+loads_of blocks = map whole (read_of blocks)
+
+-- what was found are some of these blocks, whatever the reader tells
+pub record IsOf (blocks : List BlockAt) (f : Found) : Type 0 where
+  pub nodes : All (Contains blocks) f.nodes.items
+  pub ways : All (Contains blocks) f.ways.items
+  pub few_nodes : length f.nodes.items ≤ length blocks
+  pub few_ways : length f.ways.items ≤ length blocks
 
 -- the reader failed
 abbrev pub survey_failed : {A : Type 0} → Result A ScanStop → Bool
@@ -55,10 +77,15 @@ survey_failed (Err (stops.Damage damage)) = false
 survey_failed (Err stops.Failed) = true
 survey_failed (Err stops.Memory) = false
 
-abbrev pub load_failed : {A : Type 0} → Result A LoadStop → Bool
-load_failed (Ok x) = false
-load_failed (Err loads.Failed) = true
-load_failed (Err loads.Memory) = false
+-- what was found lies within an extract that is told
+pub record FitFound (told : Option (List ℕ)) (f : Found) : Type 0 where
+  pub nodes : All (FitsIn told) f.nodes.items
+  pub ways : All (FitsIn told) f.ways.items
+
+-- the passes behind the survey may be done in this order
+pub record MayGoOn (order : Order) (f : Found) : Type 0 where
+  pub nodes : MayPass order (needs_of f.nodes.items)
+  pub ways : MayPass order (needs_of f.ways.items)
 
 -- the reader failed in a pass
 abbrev pub source_failed : {A : Type 0} → Result A PassStop → Bool

@@ -1,22 +1,25 @@
 ghost use Rattle.std.specs.Prelude.{◌≡◌};
 ghost use Rattle.tb_types.specs.Needs.{group_need};
 
-use crate::needs::{block_need, is_read};
+use crate::needs::largest_block;
 use crate::numbers::{TILE_FACTOR, TILE_REST};
+use block_pass::Order;
 use memory_book::{Book, Grant, Purse};
 use pbf_blobs::BlockAt;
 use tb_types::Memory;
 
-/// Books what a block needs while it is loaded and worked on. One of another type is not read, and needs nothing.
-pub fn book_block<L: Purse>(book: &mut Book<L>, block: BlockAt) -> Result<Grant<L>, Memory> {
-    book_need(
-        book,
-        if is_read(block.kind) {
-            block_need(block.len)
-        } else {
-            0
-        },
-    )
+/// Books what a pass over blocks needs while they are loaded and worked on: in the order of the file one after another, so the largest
+/// need; and for drawn lanes all of their part, in which they book by themselves.
+pub fn book_pass<L: Purse>(
+    book: &mut Book<L>,
+    order: &Order,
+    blocks: &[BlockAt],
+) -> Result<Grant<L>, Memory> {
+    let need = match order {
+        Order::InFile => largest_block(blocks),
+        Order::Drawn(drawn) => drawn.part,
+    };
+    book_need(book, need)
 }
 
 /// Books what the items of a tile need, by the sum of their lengths.

@@ -1,12 +1,12 @@
-ghost use Rattle.std.specs.Prelude.{◌≡◌, ◌^◌, ◌≤◌, IfSome, OnOk, length};
+ghost use Rattle.std.specs.Prelude.{◌≡◌, ◌^◌, ◌≤◌, IfSome, OnOk, unwrap_or, None};
 ghost use Rattle.profile_rules.specs.Sound.{IsSound};
 ghost use Rattle.tile_model.specs.Loads.{Logs};
+ghost use Rattle.pass_survey.specs.Told.{box_of};
 ghost use Rattle.build_one.specs.Extracts.{ExtractAnswers};
-ghost use Rattle.build_one.specs.Found.{IsReady};
+ghost use Rattle.pass_survey.specs.Found.{IsReady};
 ghost use Rattle.build_one.specs.Made.{GatherAnswers, loads_behind};
-ghost use Rattle.build_one.specs.Survey.{LieWithin};
+ghost use Rattle.build_one.specs.Survey.{FitFound, MayGoOn};
 
-use crate::found::Found;
 use crate::members::members;
 use crate::needs::{batch_part, largest_block, run_limit};
 use crate::nodes::nodes;
@@ -15,9 +15,10 @@ use crate::relations::relations;
 use crate::stop::{stop_of_pass, stop_of_relations, stop_of_survey};
 use crate::survey::survey;
 use crate::ways::ways;
+use block_pass::Order;
 use feature_runs::{RunAt, RunBuffer};
 use memory_book::{Book, Purse};
-use pass_survey::needed_ways;
+use pass_survey::{Found, needed_ways};
 use pbf_blobs::scan;
 use profile_rules::Profile;
 use std::alloc::Global;
@@ -58,17 +59,30 @@ pub fn read_extract<L: Purse, R: Source, S: Spill>(
             need,
         });
     }
-    let found = match survey(alloc, profile, reader, book, blocks) {
+    let mut order = Order::InFile;
+    let found = match survey(alloc, profile, reader, book, &mut order, blocks) {
         Ok(found) => found,
         Err(e) => return Err(stop_of_survey(e)),
     };
     let limit = run_limit(budget, LANES);
-    match gather(alloc, profile, reader, spill, book, &found, part, limit) {
+    match gather(
+        alloc, profile, reader, spill, book, &mut order, &found, part, limit,
+    ) {
         Ok(runs) => Ok(Items {
             runs,
-            bounds: found.header_box.unwrap_or(None),
+            bounds: bounds_of(&found),
         }),
         Err(stop) => Err(stop),
+    }
+}
+
+// The box of an extract, if its first header has one.
+fn bounds_of(found: &Found) -> Option<Bounds>
+    ensures { result ≡ unwrap_or (box_of found.now.header) None }
+{
+    match found.header {
+        Some(header) => header.bounds,
+        None => None,
     }
 }
 
@@ -80,21 +94,31 @@ fn gather<L: Purse, R: Source, S: Spill>(
     reader: &mut R,
     spill: &mut S,
     book: &mut Book<L>,
+    order: &mut Order,
     found: &Found,
     part: u64,
     limit: u64,
 ) -> Result<Seq<RunAt>, Stop>
     requires sound { IsSound profile.now }
     requires ready { IsReady profile.now found.now }
-    requires within { IfSome (R.seen reader.old).bytes (λ extract. LieWithin (length extract) found.now) }
+    requires may { MayGoOn order.old found.now }
+    requires within { FitFound (R.seen reader.old).bytes found.now }
     ensures answers { GatherAnswers profile.now part limit found.now (R.seen reader.old) (R.seen reader.new) (S.seen spill.old) (S.seen spill.new) result }
-    ensures loads { OnOk result (Logs (R.seen reader.old) (R.seen reader.new) (loads_behind found.now)) }
+    ensures loads { OnOk result (Logs (R.seen reader.old) (R.seen reader.new) (loads_behind order.old found.now)) }
 {
     let member_ways = match needed_ways(alloc, &found.kept) {
         Ok(ways) => ways,
         Err(Memory) => return Err(Stop::Memory),
     };
-    let needed = match members(alloc, profile, reader, book, &found.ways, &member_ways) {
+    let needed = match members(
+        alloc,
+        profile,
+        reader,
+        book,
+        order,
+        &found.ways,
+        &member_ways,
+    ) {
         Ok(needed) => needed,
         Err(e) => return Err(stop_of_pass(MEMBERS, e)),
     };
@@ -108,6 +132,7 @@ fn gather<L: Purse, R: Source, S: Spill>(
         reader,
         spill,
         book,
+        order,
         &mut buffer,
         &found.nodes,
         &needed,
@@ -121,6 +146,7 @@ fn gather<L: Purse, R: Source, S: Spill>(
         reader,
         spill,
         book,
+        order,
         &mut buffer,
         &found.ways,
         &member_ways,

@@ -1,19 +1,18 @@
 //! A build on one lane: takes a profile and the extract that a lane's reader has, gives its archive to a sink.
 //!
-//! Read `engine` and `extract` (the passes by their names), then along the way of the bytes: `profile`, `survey` and `found` (which
-//! blocks the extract has), `booking`, `load` and `body` (one block), the passes `members`, `nodes`, `ways` and `relations`, `map` (what the archive says of the map)
-//! and `tiles`. What a build promises by its answer stands in `specs/Answers`; what is due is `tile_model`'s `Due`.
+//! Read `engine` and `extract` (the passes by their names), then along the way of the bytes: `profile`, `survey` (which blocks the
+//! extract has), `booking`, `elements` (one block), the passes `members`, `nodes`, `ways` and `relations`, `map` (what the archive says of
+//! the map) and `tiles`. What a build promises by its answer stands in `specs/Answers`; what is due is `tile_model`'s `Due`.
 #![tactic(auto)]
 
-mod body;
 mod booking;
+mod elements;
 mod engine;
 mod extract;
-mod found;
-mod load;
 mod map;
 mod members;
 mod needs;
+mod node_work;
 mod nodes;
 mod numbers;
 mod profile;
@@ -21,6 +20,7 @@ mod relations;
 mod stop;
 mod survey;
 mod tiles;
+mod way_work;
 mod ways;
 mod worked;
 

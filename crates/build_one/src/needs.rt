@@ -2,7 +2,7 @@ ghost use Rattle.std.specs.Prelude.{◌≡◌, ◌<◌, max};
 ghost use Rattle.tb_types.specs.Needs as needs;
 ghost use Rattle.tile_model.specs.Needs.{block_needs, is_read, largest, run_limit};
 
-use crate::numbers::{BLOCK_FACTOR, BLOCK_REST};
+use block_pass::block_need;
 use pbf_blobs::{BlockAt, BlockKind};
 
 /// The part of a budget that blocks, relations and tiles are booked in, in bytes.
@@ -38,13 +38,6 @@ pub fn is_read(kind: BlockKind) -> bool
     ensures { result ≡ is_read kind }
 {
     kind != BlockKind::Other
-}
-
-/// What a block with a body of so many bytes needs, in bytes.
-pub fn block_need(len: u32) -> u64
-    ensures { result ≡ needs.block_need len }
-{
-    BLOCK_FACTOR * u64::from(len) + BLOCK_REST
 }
 
 // The larger of two numbers.

@@ -1,20 +1,21 @@
-ghost use Rattle.std.specs.Prelude.{◌≡◌, ◌++◌, All, IfSome, OnOk, length, map};
+ghost use Rattle.std.specs.Prelude.{◌≡◌, All, OnOk, map};
 ghost use Rattle.tb_types.specs.Counts.{Counted};
-ghost use Rattle.pbf_blobs.specs.Answers.{IsShort};
+ghost use Rattle.pass_order.specs.Orders.{MayPass, next_order};
+ghost use Rattle.block_pass.specs.Loading.{FitsIn};
+ghost use Rattle.block_pass.specs.Orders.{load_order, needs_of};
 ghost use Rattle.profile_rules.specs.Sound.{IsSound};
 ghost use Rattle.feature_runs.specs.Writing.{Frames};
-ghost use Rattle.tile_model.specs.Points.{block_points};
 ghost use Rattle.tile_model.specs.Loads.{whole, Logs};
-ghost use Rattle.tile_model.specs.Tiles.{emitted_items};
-ghost use Rattle.pass_shapes.specs.Emitting.{Emits};
-ghost use Rattle.pass_shapes.specs.Stores.{located_in};
-ghost use Rattle.build_one.specs.Found.{IsOfElements};
+ghost use Rattle.pass_survey.specs.Found.{IsOfElements};
 ghost use Rattle.build_one.specs.Passes.{ArePlaced, Reads};
 ghost use Rattle.build_one.specs.Survey.{as_spilled, source_failed};
+ghost use Rattle.build_one.specs.Works.{AreMade, nodes_made, nodes_meaning, nodes_put};
 
-use crate::booking::book_block;
-use crate::load::load_block;
+use crate::booking::book_pass;
+use crate::elements::{read_elements, stop_of_blocks};
+use crate::node_work::NodeWork;
 use crate::stop::{PassStop, stop_of_spill};
+use block_pass::{Order, Work, pass_blocks};
 use feature_runs::RunBuffer;
 use int_mercator::Table;
 use member_sets::NeededNodes;
@@ -26,8 +27,50 @@ use pbf_blobs::BlockAt;
 use profile_rules::Profile;
 use shard_store::ShardMap;
 use std::alloc::Global;
-use tb_outside::{Source, Spill, SpillErr};
+use tb_outside::{Source, Spill};
 use tb_types::{Memory, OsmId};
+
+impl<'a, S: Spill> Work for NodeWork<'a, S> {
+    type Body = Block;
+
+    type Fault = PassStop;
+
+    ghost use Rattle.build_one.specs.WorkLaws.{nodes-begin, nodes-stop};
+
+    ghost meaning = { nodes_meaning S.seen };
+
+    fn read(&self, block: BlockAt, body: Vec<u8>) -> Result<Block, PassStop> {
+        read_elements(self.alloc, block, &body)
+    }
+
+    fn put(&mut self, block: BlockAt, body: &Block) -> Result<(), PassStop> {
+        let nodes = body.nodes.as_slice();
+        match put_located(self.entries, self.needed, self.table, block.no, nodes) {
+            Ok(()) => Ok(()),
+            Err(Memory) => Err(PassStop::Memory),
+        }
+    }
+
+    fn emit(&mut self, block: BlockAt, body: Block) -> Result<(), PassStop> {
+        let nodes = body.nodes.as_slice();
+        match put_points(
+            self.buffer,
+            self.spill,
+            self.alloc,
+            self.profile,
+            self.table,
+            block.no,
+            nodes,
+        ) {
+            Ok(()) => Ok(()),
+            Err(e) => Err(stop_of_spill(e)),
+        }
+    }
+
+    ghost begins = { nodes-begin S.seen };
+
+    ghost stops_after = { nodes-stop S.seen };
+}
 
 /// Locates the needed nodes, and adds the items of all nodes to the run buffer. Each of these blocks is loaded, once.
 pub fn nodes<L: Purse, R: Source, S: Spill>(
@@ -36,70 +79,79 @@ pub fn nodes<L: Purse, R: Source, S: Spill>(
     reader: &mut R,
     spill: &mut S,
     book: &mut Book<L>,
+    order: &mut Order,
     buffer: &mut RunBuffer,
     blocks: &[BlockAt],
     needed: &NeededNodes,
 ) -> Result<Locations, PassStop>
     requires sound { IsSound profile.now }
-    requires within { IfSome (R.seen reader.old).bytes (λ extract. All (IsShort (length extract)) blocks.now) }
+    requires may { MayPass order.old (needs_of blocks.now) }
+    requires within { All (FitsIn (R.seen reader.old).bytes) blocks.now }
     requires kinds { All IsOfElements blocks.now }
     ensures read { Reads (λ locations read. ArePlaced profile.now needed.now (S.seen spill.old) (S.seen spill.new) buffer.old buffer.new locations read) blocks.now (R.seen reader.old).bytes result }
     ensures counts { Counted (source_failed result) (R.seen reader.old).faults (R.seen reader.new).faults }
-    ensures loads { OnOk result (Logs (R.seen reader.old) (R.seen reader.new) (map whole blocks.now)) }
+    ensures loads { OnOk result (Logs (R.seen reader.old) (R.seen reader.new) (map whole (load_order order.old blocks.now))) }
+    ensures order { OnOk result (order.new ≡ next_order order.old (needs_of blocks.now)) }
     ensures bytes { (R.seen reader.new).bytes ≡ (R.seen reader.old).bytes }
     ensures spill { Frames (S.seen spill.old) (S.seen spill.new) (as_spilled result) }
 {
     let table = Table::new(alloc)?;
+    let grant = book_pass(book, order, blocks)?;
     let mut entries: Vec<(OsmId, Located)> = Vec::new(alloc);
-    for block in blocks {
-        let grant = book_block(book, *block)?;
-        let elements = match load_block(alloc, reader, *block) {
-            Ok(elements) => elements,
-            Err(stop) => {
-                book.give(grant);
-                return Err(stop);
-            }
-        };
-        match put_nodes(
-            &mut entries,
-            buffer,
-            spill,
-            alloc,
-            profile,
-            &table,
-            needed,
-            block.no,
-            &elements,
-        ) {
-            Ok(()) => book.give(grant),
-            Err(e) => {
-                book.give(grant);
-                return Err(stop_of_spill(e));
-            }
-        }
+    let passed = pass_nodes(
+        alloc,
+        profile,
+        reader,
+        spill,
+        order,
+        buffer,
+        blocks,
+        &table,
+        needed,
+        &mut entries,
+    );
+    book.give(grant);
+    match passed {
+        Ok(()) => Ok(Locations::from_map(ShardMap::joined(entries))),
+        Err(stop) => Err(stop),
     }
-    Ok(Locations::from_map(ShardMap::joined(entries)))
 }
 
-// What is known of the needed nodes of a block is put, and the items of its nodes are added.
-fn put_nodes<S: Spill>(
-    entries: &mut Vec<(OsmId, Located)>,
-    buffer: &mut RunBuffer,
-    spill: &mut S,
+// The same, with what is put behind other entries.
+fn pass_nodes<'a, R: Source, S: Spill>(
     alloc: Global,
-    profile: &Profile,
-    table: &Table,
-    needed: &NeededNodes,
-    no: u32,
-    block: &Block,
-) -> Result<(), SpillErr>
+    profile: &'a Profile,
+    reader: &mut R,
+    spill: &'a mut S,
+    order: &mut Order,
+    buffer: &'a mut RunBuffer,
+    blocks: &[BlockAt],
+    table: &'a Table,
+    needed: &'a NeededNodes,
+    entries: &'a mut Vec<(OsmId, Located)>,
+) -> Result<(), PassStop>
     requires sound { IsSound profile.now }
-    ensures entries { OnOk result (entries.new.items ≡ entries.old.items ++ located_in needed.now no block.now.nodes) }
-    ensures items { Emits profile.now (emitted_items (block_points profile.now (no, block.now))) (S.seen spill.old) (S.seen spill.new) buffer.old buffer.new result }
+    requires may { MayPass order.old (needs_of blocks.now) }
+    requires within { All (FitsIn (R.seen reader.old).bytes) blocks.now }
+    requires kinds { All IsOfElements blocks.now }
+    ensures read { Reads (λ x read. AreMade profile.now (nodes_put needed.now) (nodes_made profile.now) read entries.old.items entries.new.items (S.seen spill.old) (S.seen spill.new) buffer.old buffer.new) blocks.now (R.seen reader.old).bytes result }
+    ensures counts { Counted (source_failed result) (R.seen reader.old).faults (R.seen reader.new).faults }
+    ensures loads { OnOk result (Logs (R.seen reader.old) (R.seen reader.new) (map whole (load_order order.old blocks.now))) }
+    ensures order { OnOk result (order.new ≡ next_order order.old (needs_of blocks.now)) }
+    ensures bytes { (R.seen reader.new).bytes ≡ (R.seen reader.old).bytes }
+    ensures spill { Frames (S.seen spill.old) (S.seen spill.new) (as_spilled result) }
 {
-    let nodes = block.nodes.as_slice();
-    match put_located(entries, needed, table, no, nodes) {
-        Ok(()) => put_points(buffer, spill, alloc, profile, table, no, nodes),
-        Err(Memory) => Err(SpillErr::Memory),
+    let mut work = NodeWork {
+        buffer,
+        spill,
+        entries,
+        alloc,
+        profile,
+        table,
+        needed,
+    };
+    match pass_blocks(alloc, order, reader, blocks, &mut work) {
+        Ok(()) => Ok(()),
+        Err(e) => Err(stop_of_blocks(e)),
     }
 }

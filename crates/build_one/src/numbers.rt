@@ -10,11 +10,6 @@ pub const NODES: u8 = 2;
 
 pub const WAYS: u8 = 3;
 
-/// Bytes that a block needs for each byte of its body, and besides.
-pub const BLOCK_FACTOR: u64 = 16;
-
-pub const BLOCK_REST: u64 = 65_536;
-
 /// Bytes that the items of a tile need for each of their bytes, and besides.
 pub const TILE_FACTOR: u64 = 4;
 

@@ -25,15 +25,6 @@ pub enum ProfileStop {
     Memory,
 }
 
-/// Why a block isn't loaded.
-#[derive(Clone, Copy, Debug, PartialEq, Eq)]
-pub enum LoadStop {
-    /// The reader failed.
-    Failed,
-    /// Want of memory.
-    Memory,
-}
-
 /// Why a pass behind the survey ends.
 #[derive(Clone, Copy, Debug, PartialEq, Eq)]
 pub enum PassStop {
@@ -172,16 +163,6 @@ impl From<AllocError> for ProfileStop {
 
     fn from(_e: AllocError) -> ProfileStop {
         ProfileStop::Memory
-    }
-}
-
-impl From<AllocError> for LoadStop {
-    ghost use Rattle.build_one.specs.declared.stop.LoadStop.TheVariants as stops;
-
-    ghost from_gives = { λ _ e. e ≡ stops.Memory };
-
-    fn from(_e: AllocError) -> LoadStop {
-        LoadStop::Memory
     }
 }
 

@@ -1,20 +1,21 @@
-ghost use Rattle.std.specs.Prelude.{◌≡◌, ◌++◌, All, IfSome, OnOk, length, map};
+ghost use Rattle.std.specs.Prelude.{◌≡◌, All, OnOk, map};
 ghost use Rattle.tb_types.specs.Counts.{Counted};
-ghost use Rattle.pbf_blobs.specs.Answers.{IsShort};
+ghost use Rattle.pass_order.specs.Orders.{MayPass, next_order};
+ghost use Rattle.block_pass.specs.Loading.{FitsIn};
+ghost use Rattle.block_pass.specs.Orders.{load_order, needs_of};
 ghost use Rattle.profile_rules.specs.Sound.{IsSound};
 ghost use Rattle.feature_runs.specs.Writing.{Frames};
 ghost use Rattle.tile_model.specs.Loads.{whole, Logs};
-ghost use Rattle.tile_model.specs.Tiles.{emitted_items};
-ghost use Rattle.tile_model.specs.Ways.{block_ways};
-ghost use Rattle.pass_shapes.specs.Emitting.{Emits};
-ghost use Rattle.pass_shapes.specs.Stores.{locate_in, shaped_in};
-ghost use Rattle.build_one.specs.Found.{IsOfElements};
+ghost use Rattle.pass_survey.specs.Found.{IsOfElements};
 ghost use Rattle.build_one.specs.Passes.{AreDrawn, Reads};
 ghost use Rattle.build_one.specs.Survey.{as_spilled, source_failed};
+ghost use Rattle.build_one.specs.Works.{AreMade, ways_made, ways_meaning, ways_put};
 
-use crate::booking::book_block;
-use crate::load::load_block;
+use crate::booking::book_pass;
+use crate::elements::{read_elements, stop_of_blocks};
 use crate::stop::{PassStop, stop_of_spill};
+use crate::way_work::WayWork;
+use block_pass::{Order, Work, pass_blocks};
 use feature_runs::RunBuffer;
 use member_sets::NeededWays;
 use memory_book::{Book, Purse};
@@ -25,8 +26,57 @@ use pbf_blobs::BlockAt;
 use profile_rules::Profile;
 use shard_store::ShardMap;
 use std::alloc::Global;
-use tb_outside::{Source, Spill, SpillErr};
+use tb_outside::{Source, Spill};
 use tb_types::{Memory, OsmId};
+
+impl<'a, S: Spill> Work for WayWork<'a, S> {
+    type Body = Block;
+
+    type Fault = PassStop;
+
+    ghost use Rattle.build_one.specs.WorkLaws.{ways-begin, ways-stop};
+
+    ghost meaning = { ways_meaning S.seen };
+
+    fn read(&self, block: BlockAt, body: Vec<u8>) -> Result<Block, PassStop> {
+        read_elements(self.alloc, block, &body)
+    }
+
+    fn put(&mut self, block: BlockAt, body: &Block) -> Result<(), PassStop> {
+        let ways = body.ways.as_slice();
+        match put_shaped(
+            self.entries,
+            self.alloc,
+            self.needed,
+            self.locations,
+            block.no,
+            ways,
+        ) {
+            Ok(()) => Ok(()),
+            Err(Memory) => Err(PassStop::Memory),
+        }
+    }
+
+    fn emit(&mut self, block: BlockAt, body: Block) -> Result<(), PassStop> {
+        let ways = body.ways.as_slice();
+        match put_ways(
+            self.buffer,
+            self.spill,
+            self.alloc,
+            self.profile,
+            self.locations,
+            block.no,
+            ways,
+        ) {
+            Ok(()) => Ok(()),
+            Err(e) => Err(stop_of_spill(e)),
+        }
+    }
+
+    ghost begins = { ways-begin S.seen };
+
+    ghost stops_after = { ways-stop S.seen };
+}
 
 /// Gives the needed ways their shapes, and adds the items of all ways to the run buffer. Each of these blocks is loaded, once.
 pub fn ways<L: Purse, R: Source, S: Spill>(
@@ -35,70 +85,79 @@ pub fn ways<L: Purse, R: Source, S: Spill>(
     reader: &mut R,
     spill: &mut S,
     book: &mut Book<L>,
+    order: &mut Order,
     buffer: &mut RunBuffer,
     blocks: &[BlockAt],
     needed: &NeededWays,
     locations: &Locations,
 ) -> Result<Shapes, PassStop>
     requires sound { IsSound profile.now }
-    requires within { IfSome (R.seen reader.old).bytes (λ extract. All (IsShort (length extract)) blocks.now) }
+    requires may { MayPass order.old (needs_of blocks.now) }
+    requires within { All (FitsIn (R.seen reader.old).bytes) blocks.now }
     requires kinds { All IsOfElements blocks.now }
     ensures read { Reads (λ shapes read. AreDrawn profile.now needed.now locations.now (S.seen spill.old) (S.seen spill.new) buffer.old buffer.new shapes read) blocks.now (R.seen reader.old).bytes result }
     ensures counts { Counted (source_failed result) (R.seen reader.old).faults (R.seen reader.new).faults }
-    ensures loads { OnOk result (Logs (R.seen reader.old) (R.seen reader.new) (map whole blocks.now)) }
+    ensures loads { OnOk result (Logs (R.seen reader.old) (R.seen reader.new) (map whole (load_order order.old blocks.now))) }
+    ensures order { OnOk result (order.new ≡ next_order order.old (needs_of blocks.now)) }
     ensures bytes { (R.seen reader.new).bytes ≡ (R.seen reader.old).bytes }
     ensures spill { Frames (S.seen spill.old) (S.seen spill.new) (as_spilled result) }
 {
+    let grant = book_pass(book, order, blocks)?;
     let mut entries: Vec<(OsmId, Shaped)> = Vec::new(alloc);
-    for block in blocks {
-        let grant = book_block(book, *block)?;
-        let elements = match load_block(alloc, reader, *block) {
-            Ok(elements) => elements,
-            Err(stop) => {
-                book.give(grant);
-                return Err(stop);
-            }
-        };
-        match draw(
-            &mut entries,
-            buffer,
-            spill,
-            alloc,
-            profile,
-            needed,
-            locations,
-            block.no,
-            &elements,
-        ) {
-            Ok(()) => book.give(grant),
-            Err(e) => {
-                book.give(grant);
-                return Err(stop_of_spill(e));
-            }
-        }
+    let passed = pass_ways(
+        alloc,
+        profile,
+        reader,
+        spill,
+        order,
+        buffer,
+        blocks,
+        needed,
+        locations,
+        &mut entries,
+    );
+    book.give(grant);
+    match passed {
+        Ok(()) => Ok(Shapes::from_map(ShardMap::joined(entries))),
+        Err(stop) => Err(stop),
     }
-    Ok(Shapes::from_map(ShardMap::joined(entries)))
 }
 
-// What is known of the needed ways of a block is put, and the items of its ways are added.
-fn draw<S: Spill>(
-    entries: &mut Vec<(OsmId, Shaped)>,
-    buffer: &mut RunBuffer,
-    spill: &mut S,
+// The same, with what is put behind other entries.
+fn pass_ways<'a, R: Source, S: Spill>(
     alloc: Global,
-    profile: &Profile,
-    needed: &NeededWays,
-    locations: &Locations,
-    no: u32,
-    block: &Block,
-) -> Result<(), SpillErr>
+    profile: &'a Profile,
+    reader: &mut R,
+    spill: &'a mut S,
+    order: &mut Order,
+    buffer: &'a mut RunBuffer,
+    blocks: &[BlockAt],
+    needed: &'a NeededWays,
+    locations: &'a Locations,
+    entries: &'a mut Vec<(OsmId, Shaped)>,
+) -> Result<(), PassStop>
     requires sound { IsSound profile.now }
-    ensures entries { OnOk result (entries.new.items ≡ entries.old.items ++ shaped_in needed.now (locate_in locations.now) no block.now.ways) }
-    ensures items { Emits profile.now (emitted_items (block_ways profile.now (locate_in locations.now) (no, block.now))) (S.seen spill.old) (S.seen spill.new) buffer.old buffer.new result }
+    requires may { MayPass order.old (needs_of blocks.now) }
+    requires within { All (FitsIn (R.seen reader.old).bytes) blocks.now }
+    requires kinds { All IsOfElements blocks.now }
+    ensures read { Reads (λ x read. AreMade profile.now (ways_put needed.now locations.now) (ways_made profile.now locations.now) read entries.old.items entries.new.items (S.seen spill.old) (S.seen spill.new) buffer.old buffer.new) blocks.now (R.seen reader.old).bytes result }
+    ensures counts { Counted (source_failed result) (R.seen reader.old).faults (R.seen reader.new).faults }
+    ensures loads { OnOk result (Logs (R.seen reader.old) (R.seen reader.new) (map whole (load_order order.old blocks.now))) }
+    ensures order { OnOk result (order.new ≡ next_order order.old (needs_of blocks.now)) }
+    ensures bytes { (R.seen reader.new).bytes ≡ (R.seen reader.old).bytes }
+    ensures spill { Frames (S.seen spill.old) (S.seen spill.new) (as_spilled result) }
 {
-    let ways = block.ways.as_slice();
-    match put_shaped(entries, alloc, needed, locations, no, ways) {
-        Ok(()) => put_ways(buffer, spill, alloc, profile, locations, no, ways),
-        Err(Memory) => Err(SpillErr::Memory),
+    let mut work = WayWork {
+        buffer,
+        spill,
+        entries,
+        alloc,
+        profile,
+        needed,
+        locations,
+    };
+    match pass_blocks(alloc, order, reader, blocks, &mut work) {
+        Ok(()) => Ok(()),
+        Err(e) => Err(stop_of_blocks(e)),
     }
 }

@@ -1,5 +1,5 @@
 use Rattle.std.proofs.Common.{Option, Ok, Err, List, ℕ, refl, sym, subst, ◌∙◌}
-use Rattle.std.specs.Prelude.{⊤, flat_map, map, ◌++◌}
+use Rattle.std.specs.Prelude.{⊤, flat_map}
 use Rattle.tb_types.specs.Counts.{Counted}
 use Rattle.pbf_blobs.specs.declared.block.BlockAt.{BlockAt}
 use Rattle.shard_store.specs.Join.{Entry}
@@ -7,7 +7,6 @@ use Rattle.member_sets.specs.declared.kept.KeptRelation.{KeptRelation}
 use Rattle.member_sets.specs.declared.unit.Unit as units
 use Rattle.node_store.specs.declared.shaped.Shaped.{Shaped}
 use Rattle.feature_runs.specs.Writing.{Frames}
-use Rattle.tile_model.specs.Loads.{whole, Logs}
 use Rattle.tile_model.specs.Tiles.{emitted_items}
 use Rattle.tile_model.specs.declared.stop.Stop.{Stop}
 use Rattle.pass_shapes.specs.Kept.{kept_features, needs_of}
@@ -17,7 +16,7 @@ use Rattle.build_one.specs.Made.{GatherAnswers}
 use Rattle.build_one.specs.declared.stop.RelationStop.{RelationStop}
 use Rattle.build_one.specs.Passes.{AreMembers, AreNeeded, ArePlaced, AreDrawn, Reads, RelationAnswers, RelationTold}
 use Rattle.build_one.specs.Survey.{source_failed}
-use Rattle.build_one.proofs.Logs.{logs-on}
+use Rattle.build_one.proofs.Ordered.{gathered-loads}
 use Rattle.build_one.proofs.Gathering.{damaged-ways}
 use Rattle.build_one.proofs.Gathered.{gather-refused, damaged-by, same-frames, all-told, over-told, relations-refused, gathered-all}
 use Rattle.build_one.proofs.extract.gather.Goals as goal
@@ -32,7 +31,7 @@ returns-in-Err-members-clause-answers g c =
     let r1 = g.R.Source.seen c.members.new.reader in
     subst (λ (stop : Stop). GatherAnswers parts c.args.part c.args.limit found r0 r1 s0 s0 (Err stop)) (sym c.stop_of_pass.ensures)
     (gather-refused parts c.args.part c.args.limit found r0 r1 s0 s0 one.bytes (List (Entry units.Unit)) 1 c.in-Err-members.e one.counts (same-frames (List (Entry units.Unit)) parts s0 c.in-Err-members.e one.alone)
-    (λ damage at. damaged-ways parts found r0.bytes damage (damaged-by (λ needed read. AreNeeded parts c.in-Ok.ways needed read) c.deref-2.result.now found.ways.items r0.bytes r0.bytes c.in-Err-members.e c.deref-2.ensures.value refl one.read damage at)))
+    (λ damage at. damaged-ways parts found r0.bytes (damaged-by (λ needed read. AreNeeded parts c.in-Ok.ways needed read) c.deref-2.result.now found.ways.items r0.bytes r0.bytes c.in-Err-members.e c.deref-2.ensures.value refl one.read damage at)))
 
 pub returns-in-Err-ways-clause-answers : goal.returns-in-Err-ways-clause-answers
 returns-in-Err-ways-clause-answers g c =
@@ -51,7 +50,7 @@ returns-in-Err-ways-clause-answers g c =
     subst (λ (stop : Stop). GatherAnswers parts c.args.part c.args.limit found r0 r3 s0 s2 (Err stop)) (sym c.stop_of_pass-in-Err-ways.ensures)
     (gather-refused parts c.args.part c.args.limit found r0 r3 s0 s2 (three.bytes ∙ (two.bytes ∙ one.bytes)) (List (Entry Shaped)) 3 c.in-Err-ways.e
     (subst (λ n. Counted (source_failed {A = List (Entry Shaped)} (Err c.in-Err-ways.e)) n r3.faults) (two.counts ∙ one.counts) three.counts) (frames-on s0 s1 s2 tt _ two.spill three.spill)
-    (λ damage at. damaged-ways parts found r0.bytes damage (damaged-by (λ shapes read. AreDrawn parts c.in-Ok.ways c.in-Ok-nodes.locations s1 s2 c.nodes.new.buffer c.ways.new.buffer shapes read) c.deref-4.result.now found.ways.items r0.bytes r2.bytes c.in-Err-ways.e c.deref-4.ensures.value (two.bytes ∙ one.bytes) three.read damage at)))
+    (λ damage at. damaged-ways parts found r0.bytes (damaged-by (λ shapes read. AreDrawn parts c.in-Ok.ways c.in-Ok-nodes.locations s1 s2 c.nodes.new.buffer c.ways.new.buffer shapes read) c.deref-4.result.now found.ways.items r0.bytes r2.bytes c.in-Err-ways.e c.deref-4.ensures.value (two.bytes ∙ one.bytes) three.read damage at)))
 
 pub returns-in-Ok-relations-clause-answers : goal.returns-in-Ok-relations-clause-answers
 returns-in-Ok-relations-clause-answers g c =
@@ -137,8 +136,7 @@ returns-in-Ok-relations-clause-loads g c =
     let r1 = g.R.Source.seen c.members.new.reader in
     let r2 = g.R.Source.seen c.nodes.new.reader in
     let r3 = g.R.Source.seen c.ways.new.reader in
-    logs-on r0 r1 r3 (map whole found.ways.items) (map whole found.nodes.items ++ map whole found.ways.items)
-    (subst (λ (blocks : List BlockAt). Logs r0 r1 (map whole blocks)) c.deref-2.ensures.value (c.in-Ok-members.ensures {u = tt}).loads)
-    (logs-on r1 r2 r3 (map whole found.nodes.items) (map whole found.ways.items)
-    (subst (λ (blocks : List BlockAt). Logs r1 r2 (map whole blocks)) c.deref-3.ensures.value (c.in-Ok-nodes.ensures {u = tt}).loads)
-    (subst (λ (blocks : List BlockAt). Logs r2 r3 (map whole blocks)) c.deref-4.ensures.value (c.in-Ok-ways.ensures {u = tt}).loads))
+    let one = c.in-Ok-members.ensures {u = tt} in
+    let two = c.in-Ok-nodes.ensures {u = tt} in
+    let three = c.in-Ok-ways.ensures {u = tt} in
+    gathered-loads c.args.order.now c.members.new.order c.nodes.new.order found r0 r1 r2 r3 c.deref-2.result.now c.deref-3.result.now c.deref-4.result.now c.deref-2.ensures.value c.deref-3.ensures.value c.deref-4.ensures.value one.order two.order one.loads two.loads three.loads

@@ -3,15 +3,19 @@ use Rattle.tb_types.specs.Counts.{Counted}
 use Rattle.tb_types.specs.Needs.{batch_part}
 use Rattle.tile_model.specs.declared.stop.Stop.{Stop}
 use Rattle.tile_model.specs.Contents.{contents_at}
-use Rattle.build_one.specs.declared.found.Found.{Found}
+use Rattle.pass_survey.specs.declared.found.Found.{Found}
 use Rattle.build_one.specs.Answers.{BuildAnswers}
 use Rattle.build_one.specs.Extracts.{at_lane}
-use Rattle.build_one.specs.Made.{GatherAnswers}
+use Rattle.pass_order.specs.declared.order.Order.{Order}
+use Rattle.tile_model.specs.Loads.{Logs}
+use Rattle.build_one.specs.Made.{GatherAnswers, loads_behind}
 use Rattle.build_one.specs.Survey.{Surveys, survey_failed}
 use Rattle.build_one.proofs.Building.{framed, gather-from}
 use Rattle.build_one.proofs.LoadCounts.{loads-due}
 use Rattle.build_one.proofs.Builds.{scan-refused, survey-refused, gather-stops}
 use Rattle.build_one.proofs.ItemsDue.{ready-box}
+use Rattle.pbf_blobs.specs.Answers.{IsNumbered}
+use Rattle.build_one.proofs.Surveying.{survey-may, found-goes-on}
 use Rattle.build_one.proofs.extract.read_extract.Goals as goal
 
 pub returns-in-Err : goal.returns-in-Err
@@ -83,7 +87,15 @@ returns-in-Ok-gather g c =
       found = found;
       surveys = surveys;
       gathered = a;
-      loaded = loads-due parts r0 (g.R.Source.seen c.scan.new.source) r2 r3 blocks found f.frames scan.loads surveys survey.loads gathered.loads;
-      box = c.unwrap_or.ensures;
-      ready = ready-box found.header_box c.unwrap_or.result c.unwrap_or.ensures survey.ready.box;
+      loaded = loads-due parts r0 (g.R.Source.seen c.scan.new.source) r2 r3 blocks found f.frames scan.loads surveys survey.loads (subst (λ (o : Order). Logs r2 r3 (loads_behind o found)) survey.order gathered.loads);
+      box = c.bounds_of.ensures;
+      ready = ready-box found.header c.bounds_of.result c.bounds_of.ensures survey.ready.box;
     }
+
+pub survey-requires-clause-may : goal.survey-requires-clause-may
+survey-requires-clause-may g c = survey-may c.as_slice-blocks.result.now (subst IsNumbered (sym c.as_slice-blocks.ensures) (c.in-Ok.ensures {u = tt}).numbered)
+
+pub gather-requires-clause-may : goal.gather-requires-clause-may
+gather-requires-clause-may g c =
+    let survey = c.in-Ok-survey.ensures in
+    found-goes-on c.as_slice-blocks.result.now c.in-Ok-survey.found c.survey.new.order survey.order (subst IsNumbered (sym c.as_slice-blocks.ensures) (c.in-Ok.ensures {u = tt}).numbered) survey.of

@@ -1,25 +1,29 @@
-use Rattle.std.proofs.Common.{rules}
-use Rattle.build_one.proofs.Surveying.{surveying-start, surveying-next, whole-found, whole-log, within-block}
+use Rattle.std.proofs.Common.{All, List, refl, sym, subst, ◌∙◌}
+use Rattle.pbf_blobs.specs.declared.block.BlockAt.{BlockAt}
+use Rattle.block_pass.specs.Loading.{FitsIn}
+use Rattle.build_one.proofs.Surveying.{read-fits, survey-damage, survey-found, survey-of}
 use Rattle.build_one.proofs.survey.survey.Goals as goal
 
-pub loop-block-init : goal.loop-block-init
-loop-block-init g c =
-    surveying-start c.args.profile.now c.args.blocks.now (g.R.Source.seen c.args.reader.now) c.new-found.result (λ extract. c.new-found.ensures.holds c.args.profile.now extract) c.new-found.ensures.none (c.new-found.ensures.ready c.args.profile.now)
+pub pass_blocks-passed-requires-clause-within : goal.pass_blocks-passed-requires-clause-within
+pass_blocks-passed-requires-clause-within g c =
+    subst (λ (bs : List BlockAt). All (FitsIn (g.R.Source.seen c.args.reader.now).bytes) bs) (sym (c.deref-2.ensures.value ∙ c.in_ok-read.ensures)) (read-fits (g.R.Source.seen c.args.reader.now).bytes c.args.blocks.now c.requires.within)
 
-pub take_block-requires : goal.take_block-requires
-take_block-requires g c =
-    record { within = within-block (g.R.Source.seen c.args.reader.now).bytes (g.R.Source.seen c.loop-block.reader).bytes c.args.blocks.now c.loop-block.block-index _ c.loop-block-test.true c.loop-block.invariant.bytes c.requires.within }
+pub returns-in-Some-clause-told : goal.returns-in-Some-clause-told
+returns-in-Some-clause-told g c =
+    survey-damage c.args.profile.now c.args.order.now c.args.blocks.now c.requires.numbered (g.R.Source.seen c.args.reader.now) (g.R.Source.seen c.pass_blocks-passed.new.reader) c.deref-2.result.now (c.deref-2.ensures.value ∙ c.in_ok-read.ensures) _ c.pass_blocks-passed.new.work
+    (c.in-Ok.ensures {u = tt}).answers.told refl (c.new.ensures.none c.args.profile.now) c.arrange.new.self c.arrange.ensures.order c.in-Some.damage c.in-Some.is
 
-pub loop-block-preserved : goal.loop-block-preserved
-loop-block-preserved g c =
-    let answered = c.in-Ok.ensures {u = tt} in
-    surveying-next c.args.profile.now c.args.blocks.now (g.R.Source.seen c.args.reader.now) (g.R.Source.seen c.loop-block.reader) (g.R.Source.seen c.take_block.new.reader) c.loop-block.block-index _ c.loop-block.found c.take_block.new.found
-    c.loop-block-test.true c.requires.within c.loop-block.invariant answered.told answered.steps answered.lists answered.loads answered.bytes answered.counts (answered.ready c.loop-block.invariant.ready)
+pub returns-clause-told : goal.returns-clause-told
+returns-clause-told g c =
+    survey-found c.args.profile.now c.args.order.now c.args.blocks.now c.requires.numbered (g.R.Source.seen c.args.reader.now) (g.R.Source.seen c.pass_blocks-passed.new.reader) c.deref-2.result.now (c.deref-2.ensures.value ∙ c.in_ok-read.ensures) _ c.pass_blocks-passed.new.work
+    (c.in-Ok.ensures {u = tt}).answers.told refl (c.new.ensures.none c.args.profile.now) c.arrange.new.self c.arrange.ensures.order c.in-None.is c.requires.within
 
-pub returns-in-None-clause-told : goal.returns-in-None-clause-told
-returns-in-None-clause-told g c =
-    whole-found c.args.profile.now c.args.blocks.now (g.R.Source.seen c.args.reader.now) (g.R.Source.seen c.loop-block.reader) c.loop-block.block-index c.loop-block.found c.loop-block-test.false c.requires.numbered c.loop-block.invariant (search rules)
+pub returns-clause-ready : goal.returns-clause-ready
+returns-clause-ready g c =
+    let p = (c.in-Ok.ensures {u = tt}).answers.told in
+    c.arrange.ensures.ready c.args.profile.now (p.did.ready (c.new.ensures.ready c.args.profile.now))
 
-pub returns-in-None-clause-loads : goal.returns-in-None-clause-loads
-returns-in-None-clause-loads g c =
-    whole-log c.args.profile.now c.args.blocks.now (g.R.Source.seen c.args.reader.now) (g.R.Source.seen c.loop-block.reader) c.loop-block.block-index c.loop-block.found c.loop-block-test.false c.loop-block.invariant
+pub returns-clause-of : goal.returns-clause-of
+returns-clause-of g c =
+    survey-of c.args.profile.now c.args.order.now c.args.blocks.now c.requires.numbered (g.R.Source.seen c.args.reader.now) (g.R.Source.seen c.pass_blocks-passed.new.reader) c.deref-2.result.now (c.deref-2.ensures.value ∙ c.in_ok-read.ensures) _ c.pass_blocks-passed.new.work
+    (c.in-Ok.ensures {u = tt}).answers.told refl (c.new.ensures.none c.args.profile.now) c.arrange.new.self c.arrange.ensures.order

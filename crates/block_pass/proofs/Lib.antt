@@ -1,0 +1,4 @@
+pub mod Logs
+pub mod Chains
+pub mod Places
+pub mod Passing
